@@ -1,0 +1,47 @@
+-- Where the header and the records of a session file stand. Numbers are big-endian.
+use mathlib.Core.List.{List, _++_}
+use Prim.Native.Nat.{ℕ, _+_, _*_, _-_}
+use lib.Chars.{codes}
+use Rattle.records.specs.Bytes.{be, bytesOf}
+use Rattle.sessions.specs.declared.section.Section.{Section}
+use Rattle.sessions.specs.declared.section.Section.the-variants.{Deposits, Events}
+
+-- the letters that begin a file
+abbrev pub letters : List ℕ
+letters = codes "SOSA"
+
+-- where the header keeps the number of a section's records, in two bytes
+abbrev pub countAt : Section → ℕ
+countAt Deposits = 4
+countAt Events = 6
+
+-- where it keeps the section's offset, in four bytes
+abbrev pub offsetAt : Section → ℕ
+offsetAt Deposits = 8
+offsetAt Events = 12
+
+-- how many bytes a record has
+abbrev pub width : Section → ℕ
+width Deposits = 4
+width Events = 16
+
+-- how many records a section of the file bs has, where it starts, and where it ends
+abbrev pub count : Section → List ℕ → ℕ
+count s bs = be 2 bs (countAt s)
+
+abbrev pub start : Section → List ℕ → ℕ
+start s bs = be 4 bs (offsetAt s)
+
+abbrev pub finish : Section → List ℕ → ℕ
+finish s bs = start s bs + width s * count s bs
+
+-- where the record of the number n begins; the first is 1
+abbrev pub place : Section → List ℕ → ℕ → ℕ
+place s bs n = start s bs + width s * (n - 1)
+
+-- the standard layout of c deposits and m events: the header, the deposits at 16, the events right behind them
+abbrev pub headerOf : ℕ → ℕ → List ℕ
+headerOf c m = letters ++ (bytesOf 2 c ++ (bytesOf 2 m ++ (bytesOf 4 16 ++ bytesOf 4 (16 + 4 * c))))
+
+abbrev pub sizeOf : ℕ → ℕ → ℕ
+sizeOf c m = 16 + 4 * c + 16 * m
