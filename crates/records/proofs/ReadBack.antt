@@ -25,4 +25,4 @@ length-encoded changeover h = refl
 
 -- the event's own bytes keep it
 pub keeps : (bs : List ℕ) (e : EventValue) → Sized e → bs ≡ encoded e → Keeps bs e
-keeps bs e h b = record { bytes = b; back = rw b (event-back e h) }
+keeps bs e h b = record { bytes = b; long = rw b (length-encoded e h); back = rw b (event-back e h) }

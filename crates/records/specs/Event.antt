@@ -73,9 +73,10 @@ Sized (raise seat shares step discount stamp) = (step < 2 ^ 16) × (discount < 2
 Sized close = Unit {0}
 Sized changeover = Unit {0}
 
--- these bytes keep the event: they are its own, and it is read back from them
+-- these bytes keep the event: they are its own, 16 in all, and it is read back from them
 pub record Keeps (bs : List ℕ) (e : EventValue) : Type 0 where
   pub bytes : bs ≡ encoded e
+  pub long : length bs ≡ 16
   pub back : decoded bs ≡ Ok e
 
 -- what making the bytes of an event answers

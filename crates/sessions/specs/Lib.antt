@@ -1,3 +1,5 @@
 pub mod Layout
 pub mod Faults
 pub mod Reading
+pub mod Writing
+pub mod RoundTrip

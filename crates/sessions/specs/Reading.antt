@@ -1,8 +1,7 @@
 -- Which bytes are a session file, and what its records are.
-use mathlib.Core.Path.{_≡_}
 use mathlib.Core.List.{List, [], _∷_}
 use mathlib.Core.Bool.{Bool, true, false, cond, _&&_, _||_, not}
-use Prim.Native.Nat.{ℕ, _+_, _≤_}
+use Prim.Native.Nat.{ℕ, _+_}
 use lib.Dec.{leb, ltb}
 use lib.ListN.{length, take}
 use Rattle.std.specs.Results.{isOk}
@@ -60,10 +59,13 @@ abbrev pub next : {A B : Type 0} → Result A FileFault → (A → Result B File
 next (Ok a) f = f a
 next (Err e) f = Err e
 
--- the bytes of a record
+-- where the record of the number n begins
+abbrev pub located : Section → List ℕ → ℕ → Result ℕ FileFault
+located s bs n = next (opened bs) (λ _. cond (numbered n (count s bs)) (Ok (place s bs n)) (Err (NoRecord n)))
+
+-- its bytes
 abbrev pub recordAt : Section → List ℕ → ℕ → Result (List ℕ) FileFault
-recordAt s bs n =
-    next (opened bs) (λ _. cond (numbered n (count s bs)) (Ok (between (place s bs n) (place s bs n + width s) bs)) (Err (NoRecord n)))
+recordAt s bs n = next (located s bs n) (λ at. Ok (between at (at + width s) bs))
 
 -- an event's own refusal is told with its number
 abbrev pub ofNumber : {A : Type 0} → ℕ → Result A RecordFault → Result A FileFault
@@ -76,8 +78,3 @@ depositAt bs n = next (recordAt Deposits bs n) (λ r. Ok (be 4 r 0))
 
 abbrev pub eventAt : List ℕ → ℕ → Result EventValue FileFault
 eventAt bs n = next (recordAt Events bs n) (λ r. ofNumber n (decoded r))
-
--- what a search for a record answers: where it begins, or the reader's refusal
-abbrev pub Placed : Result ℕ FileFault → Section → List ℕ → ℕ → Type 0
-Placed (Ok at) s bs n = (opened bs ≡ Ok tt) × (numbered n (count s bs) ≡ true) × (at ≡ place s bs n) × (at + width s ≤ length bs)
-Placed (Err f) s bs n = recordAt s bs n ≡ Err f

@@ -2,10 +2,12 @@
 ghost use mathlib.Core.Path.{_≡_};
 ghost use Prim.Native.Nat.{_+_, _≤_};
 ghost use lib.ListN.{length};
-ghost use Rattle.records.specs.Bytes.{be};
-ghost use Rattle.sessions.specs.Layout.{count, start, finish};
-ghost use Rattle.sessions.specs.Reading.{opened, Placed};
+ghost use Rattle.std.specs.Vec.{made};
+ghost use Rattle.sessions.specs.Layout.{count, start, finish, width};
+ghost use Rattle.sessions.specs.Reading.{opened, located};
 use crate::fault::FileFault;
+use crate::number::read_u16;
+use crate::number::read_u32;
 use crate::section::Section;
 
 /// The letters that a session file begins with.
@@ -16,16 +18,7 @@ pub(crate) fn count_of(bytes: &[u8], section: Section) -> usize
     requires { ⌜ 16 ≤ length (now bytes) ⌝ }
     ensures { λ r. ⌜ r ≡ count section (now (bytes .entry)) ⌝ }
 {
-    let at = section.count_at();
-    u16::from_be_bytes([bytes[at], bytes[at + 1]]) as usize
-}
-
-/// The number of four bytes at this place.
-pub(crate) fn read_u32(bytes: &[u8], at: usize) -> u32
-    requires { ⌜ at + 4 ≤ length (now bytes) ⌝ }
-    ensures { λ r. ⌜ r ≡ be 4 (now (bytes .entry)) at ⌝ }
-{
-    u32::from_be_bytes([bytes[at], bytes[at + 1], bytes[at + 2], bytes[at + 3]])
+    read_u16(bytes, section.count_at()) as usize
 }
 
 /// Where this section starts.
@@ -72,7 +65,8 @@ pub(crate) fn check(bytes: &[u8]) -> Result<(), FileFault>
 
 /// Where the record of this number begins.
 pub(crate) fn place_of(bytes: &[u8], section: Section, number: usize) -> Result<usize, FileFault>
-    ensures { λ r. ⌜ Placed r section (now (bytes .entry)) number ⌝ }
+    ensures value { λ r. ⌜ r ≡ located section (now (bytes .entry)) number ⌝ }
+    ensures within { λ r. ⌜ made r (λ at. at + width section ≤ length (now (bytes .entry))) ⌝ }
 {
     check(bytes)?;
     if number == 0 || number > count_of(bytes, section) {

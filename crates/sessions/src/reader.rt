@@ -8,7 +8,7 @@ use crate::fault::FileFault;
 use crate::head::check;
 use crate::head::count_of;
 use crate::head::place_of;
-use crate::head::read_u32;
+use crate::number::read_u32;
 use crate::section::Section;
 use records::Event;
 use records::decode;
