@@ -8,8 +8,8 @@ use lib.ListN.{length, getD, take, drop, replicate}
 use denote.Ref.{now}
 use Rattle.std.specs.declared.result.Result.{Result}
 use Rattle.std.specs.declared.result.Result.the-variants.{Ok, Err}
-use Rattle.records.specs.declared.fault.RecordFault.{RecordFault}
-use Rattle.records.specs.declared.fault.RecordFault.the-variants.{RowLength, UnknownKind, NotZero}
+use Rattle.faults.specs.declared.record.RecordFault.{RecordFault}
+use Rattle.faults.specs.declared.record.RecordFault.the-variants.{RowLength, UnknownKind, NotZero}
 use Rattle.records.specs.declared.event.Event.{Event}
 use Rattle.records.specs.declared.event.Event.the-variants.{Open, NewStep, Raise, Close, Changeover}
 use Rattle.records.specs.Bytes.{be, bytesOf, allZero}

@@ -3,7 +3,7 @@ ghost use mathlib.Core.Path.{_≡_};
 ghost use Rattle.records.specs.Bytes.{allZero};
 ghost use Rattle.records.specs.Event.{seen, decoded, valueOf, Encoded, opening};
 use crate::event::Event;
-use crate::fault::RecordFault;
+use faults::RecordFault;
 
 // Whether every byte is zero.
 fn all_zero(bytes: &[u8]) -> bool
@@ -23,7 +23,14 @@ pub fn decode<'a>(record: &'a [u8; 16]) -> Result<Event<'a>, RecordFault>
 {
     let discount = u16::from_be_bytes([record[6], record[7]]);
     let stamp = u64::from_be_bytes([
-        record[8], record[9], record[10], record[11], record[12], record[13], record[14], record[15],
+        record[8],
+        record[9],
+        record[10],
+        record[11],
+        record[12],
+        record[13],
+        record[14],
+        record[15],
     ]);
     match record[0] {
         1 if record[1] == 0 => Ok(Event::Open(&record[2..16])),
@@ -67,16 +74,62 @@ pub fn encode(event: Event) -> Result<[u8; 16], RecordFault>
 {
     match event {
         Event::Open(row) => encode_opening(row),
-        Event::NewStep { seat, market, shares, discount, stamp } => {
+        Event::NewStep {
+            seat,
+            market,
+            shares,
+            discount,
+            stamp,
+        } => {
             let [d0, d1] = discount.to_be_bytes();
             let [t0, t1, t2, t3, t4, t5, t6, t7] = stamp.to_be_bytes();
-            Ok([2, seat, market, shares, 0, 0, d0, d1, t0, t1, t2, t3, t4, t5, t6, t7])
+            Ok([
+                2,
+                seat,
+                market,
+                shares,
+                0,
+                0,
+                d0,
+                d1,
+                t0,
+                t1,
+                t2,
+                t3,
+                t4,
+                t5,
+                t6,
+                t7,
+            ])
         }
-        Event::Raise { seat, shares, step, discount, stamp } => {
+        Event::Raise {
+            seat,
+            shares,
+            step,
+            discount,
+            stamp,
+        } => {
             let [p0, p1] = step.to_be_bytes();
             let [d0, d1] = discount.to_be_bytes();
             let [t0, t1, t2, t3, t4, t5, t6, t7] = stamp.to_be_bytes();
-            Ok([3, seat, shares, 0, p0, p1, d0, d1, t0, t1, t2, t3, t4, t5, t6, t7])
+            Ok([
+                3,
+                seat,
+                shares,
+                0,
+                p0,
+                p1,
+                d0,
+                d1,
+                t0,
+                t1,
+                t2,
+                t3,
+                t4,
+                t5,
+                t6,
+                t7,
+            ])
         }
         Event::Close => Ok([4, 0, 0, 0, 0, 0, 0, 0, 0, 0, 0, 0, 0, 0, 0, 0]),
         Event::Changeover => Ok([5, 0, 0, 0, 0, 0, 0, 0, 0, 0, 0, 0, 0, 0, 0, 0]),

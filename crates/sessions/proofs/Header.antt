@@ -9,10 +9,10 @@ use lib.ListN.{length}
 use Rattle.std.proofs.shelf.Ways.{tells}
 use Rattle.std.specs.declared.result.Result.{Result}
 use Rattle.std.specs.declared.result.Result.the-variants.{Ok, Err}
-use Rattle.sessions.specs.declared.fault.FileFault.{FileFault}
-use Rattle.sessions.specs.declared.fault.FileFault.the-variants.{NoRecord}
-use Rattle.sessions.specs.declared.section.Section.{Section}
-use Rattle.sessions.specs.declared.section.Section.the-variants.{Deposits, Events}
+use Rattle.faults.specs.declared.file.FileFault.{FileFault}
+use Rattle.faults.specs.declared.file.FileFault.the-variants.{NoRecord}
+use Rattle.faults.specs.declared.section.Section.{Section}
+use Rattle.faults.specs.declared.section.Section.the-variants.{Deposits, Events}
 use Rattle.sessions.specs.Layout.{count, start, finish, place, width}
 use Rattle.sessions.specs.Reading.{opened, numbered, located, next}
 

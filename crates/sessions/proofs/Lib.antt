@@ -1,7 +1,2 @@
 pub mod Header
 pub mod Records
-pub mod Written
-pub mod Puts
-pub mod Layouts
-pub mod Sections
-pub mod Wholes

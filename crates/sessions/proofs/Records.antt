@@ -1,4 +1,4 @@
--- What is read of a record whose place was found.
+-- The bytes of a record, where the header may be read.
 use mathlib.Core.Path.{_≡_, refl, sym, ap, subst, _∙_}
 use mathlib.Core.List.{List}
 use mathlib.Core.Bool.{Bool, true, false, cond}
@@ -6,18 +6,11 @@ use Prim.Native.Nat.{ℕ, _+_}
 use Rattle.std.specs.shelf.Lists.{between}
 use Rattle.std.specs.declared.result.Result.{Result}
 use Rattle.std.specs.declared.result.Result.the-variants.{Ok, Err}
-use Rattle.records.specs.Bytes.{be}
-use Rattle.records.proofs.BigEndian.{be-between}
-use Rattle.sessions.specs.declared.section.Section.{Section}
-use Rattle.sessions.specs.declared.section.Section.the-variants.{Deposits}
-use Rattle.sessions.specs.declared.fault.FileFault.{FileFault}
-use Rattle.sessions.specs.declared.fault.FileFault.the-variants.{NoRecord}
+use Rattle.faults.specs.declared.section.Section.{Section}
+use Rattle.faults.specs.declared.file.FileFault.{FileFault}
+use Rattle.faults.specs.declared.file.FileFault.the-variants.{NoRecord}
 use Rattle.sessions.specs.Layout.{count, place, width}
-use Rattle.sessions.specs.Reading.{opened, numbered, located, recordAt, depositAt, next}
-
-pub deposit-at : (bs : List ℕ) (n at : ℕ) → Ok at ≡ located Deposits bs n → depositAt bs n ≡ Ok (be 4 bs at)
-deposit-at bs n at p =
-    ap (λ r. next (next r (λ z. Ok (between z (z + 4) bs))) (λ bytes. Ok (be 4 bytes 0))) (sym p) ∙ ap Ok (be-between 4 bs at)
+use Rattle.sessions.specs.Reading.{opened, numbered, recordAt, next}
 
 -- the bytes of a record, where the header may be read
 pub opened-record : (s : Section) (bs : List ℕ) (k p : ℕ) → opened bs ≡ Ok tt → place s bs k ≡ p → recordAt s bs k ≡ cond (numbered k (count s bs)) (Ok (between p (p + width s) bs)) (Err (NoRecord k))
@@ -26,7 +19,6 @@ opened-record s bs k p h e = subst (λ (r : Result (Unit {0}) FileFault). next (
     go : (b : Bool) → next (cond b (Ok (place s bs k)) (Err (NoRecord k))) (λ z. Ok (between z (z + width s) bs)) ≡ cond b (Ok (between p (p + width s) bs)) (Err (NoRecord k))
     go true = ap (λ z. Ok (between z (z + width s) bs)) e
     go false = refl
-
 
 -- a record that the header counts
 pub record-read : (s : Section) (bs : List ℕ) (k p : ℕ) (r : List ℕ) → opened bs ≡ Ok tt → numbered k (count s bs) ≡ true → place s bs k ≡ p → between p (p + width s) bs ≡ r → recordAt s bs k ≡ Ok r

@@ -3,8 +3,9 @@ use mathlib.Core.List.{List, _++_}
 use Prim.Native.Nat.{ℕ, _+_, _*_, _-_}
 use lib.Chars.{codes}
 use Rattle.records.specs.Bytes.{be, bytesOf}
-use Rattle.sessions.specs.declared.section.Section.{Section}
-use Rattle.sessions.specs.declared.section.Section.the-variants.{Deposits, Events}
+use Rattle.faults.specs.declared.section.Section.{Section}
+use Rattle.faults.specs.declared.section.Section.the-variants.{Deposits, Events}
+use Rattle.faults.specs.Sections.{offsetAt}
 
 -- the letters that begin a file
 abbrev pub letters : List ℕ
@@ -14,11 +15,6 @@ letters = codes "SOSA"
 abbrev pub countAt : Section → ℕ
 countAt Deposits = 4
 countAt Events = 6
-
--- where it keeps the section's offset, in four bytes
-abbrev pub offsetAt : Section → ℕ
-offsetAt Deposits = 8
-offsetAt Events = 12
 
 -- how many bytes a record has
 abbrev pub width : Section → ℕ

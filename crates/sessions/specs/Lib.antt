@@ -1,5 +1,2 @@
 pub mod Layout
-pub mod Faults
 pub mod Reading
-pub mod Writing
-pub mod RoundTrip

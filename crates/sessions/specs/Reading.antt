@@ -9,13 +9,13 @@ use Rattle.std.specs.shelf.Lists.{between}
 use Rattle.std.specs.shelf.Text.{sameBytes}
 use Rattle.std.specs.declared.result.Result.{Result}
 use Rattle.std.specs.declared.result.Result.the-variants.{Ok, Err}
-use Rattle.records.specs.declared.fault.RecordFault.{RecordFault}
+use Rattle.faults.specs.declared.record.RecordFault.{RecordFault}
 use Rattle.records.specs.Bytes.{be}
 use Rattle.records.specs.Event.{EventValue, decoded}
-use Rattle.sessions.specs.declared.section.Section.{Section}
-use Rattle.sessions.specs.declared.section.Section.the-variants.{Deposits, Events}
-use Rattle.sessions.specs.declared.fault.FileFault.{FileFault}
-use Rattle.sessions.specs.declared.fault.FileFault.the-variants.{Short, Letters, Section as BadSection, Overlap, NoRecord, Record, Oversize}
+use Rattle.faults.specs.declared.section.Section.{Section}
+use Rattle.faults.specs.declared.section.Section.the-variants.{Deposits, Events}
+use Rattle.faults.specs.declared.file.FileFault.{FileFault}
+use Rattle.faults.specs.declared.file.FileFault.the-variants.{Short, Letters, Section as BadSection, Overlap, NoRecord, Record, Oversize}
 use Rattle.sessions.specs.Layout.{letters, count, start, finish, place, width}
 
 -- the tests in their order, each with its refusal: the first that applies is the answer

@@ -3,22 +3,42 @@ ghost use mathlib.Core.Path.{_≡_};
 ghost use Prim.Native.Nat.{_+_, _≤_};
 ghost use lib.ListN.{length};
 ghost use Rattle.std.specs.Vec.{made};
-ghost use Rattle.sessions.specs.Layout.{count, start, finish, width};
+ghost use Rattle.sessions.specs.Layout.{countAt, width, count, start, finish};
 ghost use Rattle.sessions.specs.Reading.{opened, located};
-use crate::fault::FileFault;
 use crate::number::read_u16;
 use crate::number::read_u32;
-use crate::section::Section;
+use faults::FileFault;
+use faults::Section;
 
 /// The letters that a session file begins with.
-pub(crate) const LETTERS: [u8; 4] = *b"SOSA";
+pub const LETTERS: [u8; 4] = *b"SOSA";
+
+// Where the header keeps the number of a section's records.
+fn count_at(section: Section) -> usize
+    ensures { λ r. ⌜ r ≡ countAt section ⌝ }
+{
+    match section {
+        Section::Deposits => 4,
+        Section::Events => 6,
+    }
+}
+
+// How many bytes a record of the section has.
+fn record_width(section: Section) -> usize
+    ensures { λ r. ⌜ r ≡ width section ⌝ }
+{
+    match section {
+        Section::Deposits => 4,
+        Section::Events => 16,
+    }
+}
 
 /// How many records this section has.
 pub(crate) fn count_of(bytes: &[u8], section: Section) -> usize
     requires { ⌜ 16 ≤ length (now bytes) ⌝ }
     ensures { λ r. ⌜ r ≡ count section (now (bytes .entry)) ⌝ }
 {
-    read_u16(bytes, section.count_at()) as usize
+    read_u16(bytes, count_at(section)) as usize
 }
 
 /// Where this section starts.
@@ -34,7 +54,7 @@ fn end_of(bytes: &[u8], section: Section) -> usize
     requires { ⌜ 16 ≤ length (now bytes) ⌝ }
     ensures { λ r. ⌜ r ≡ finish section (now (bytes .entry)) ⌝ }
 {
-    start_of(bytes, section) + section.record_width() * count_of(bytes, section)
+    start_of(bytes, section) + record_width(section) * count_of(bytes, section)
 }
 
 /// Whether these bytes are a session file that may be read.
@@ -57,14 +77,18 @@ pub(crate) fn check(bytes: &[u8]) -> Result<(), FileFault>
     if events < 16 || events_end > bytes.len() {
         return Err(FileFault::Section(Section::Events));
     }
-    if deposits < deposits_end && events < events_end && deposits < events_end && events < deposits_end {
+    if deposits < deposits_end
+        && events < events_end
+        && deposits < events_end
+        && events < deposits_end
+    {
         return Err(FileFault::Overlap);
     }
     Ok(())
 }
 
 /// Where the record of this number begins.
-pub(crate) fn place_of(bytes: &[u8], section: Section, number: usize) -> Result<usize, FileFault>
+pub fn place_of(bytes: &[u8], section: Section, number: usize) -> Result<usize, FileFault>
     ensures value { λ r. ⌜ r ≡ located section (now (bytes .entry)) number ⌝ }
     ensures within { λ r. ⌜ made r (λ at. at + width section ≤ length (now (bytes .entry))) ⌝ }
 {
@@ -72,5 +96,5 @@ pub(crate) fn place_of(bytes: &[u8], section: Section, number: usize) -> Result<
     if number == 0 || number > count_of(bytes, section) {
         return Err(FileFault::NoRecord(number));
     }
-    Ok(start_of(bytes, section) + section.record_width() * (number - 1))
+    Ok(start_of(bytes, section) + record_width(section) * (number - 1))
 }

@@ -1,19 +1,9 @@
-//! The session file: deposits and events of a procurement, read from lent bytes and written into lent memory.
-mod fault;
+//! The session file, read: deposits and events of a procurement over bytes that are lent.
 mod head;
 mod number;
 mod reader;
-mod section;
-mod whole;
-mod writer;
 
-pub use fault::FileFault;
-pub use fault::FileFaultDebug;
-pub use fault::FileFaultEq;
-pub use fault::FileFaultPartialEq;
+pub use head::LETTERS;
+pub use head::place_of;
+pub use reader::MOST_BYTES;
 pub use reader::Reader;
-pub use section::Section;
-pub use whole::put_session;
-pub use writer::put_deposit;
-pub use writer::put_event;
-pub use writer::put_header;

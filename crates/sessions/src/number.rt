@@ -1,8 +1,8 @@
-//! Big-endian numbers, read and written.
+//! Big-endian numbers, read.
 ghost use mathlib.Core.Path.{_≡_};
 ghost use Prim.Native.Nat.{_+_, _≤_};
 ghost use lib.ListN.{length};
-ghost use Rattle.records.specs.Bytes.{be, bytesOf};
+ghost use Rattle.records.specs.Bytes.{be};
 
 /// The number of two bytes at this place.
 pub(crate) fn read_u16(bytes: &[u8], at: usize) -> u16
@@ -18,18 +18,4 @@ pub(crate) fn read_u32(bytes: &[u8], at: usize) -> u32
     ensures { λ r. ⌜ r ≡ be 4 (now (bytes .entry)) at ⌝ }
 {
     u32::from_be_bytes([bytes[at], bytes[at + 1], bytes[at + 2], bytes[at + 3]])
-}
-
-/// The two bytes of a number.
-pub(crate) fn bytes_u16(n: u16) -> [u8; 2]
-    ensures { λ r. ⌜ r ≡ bytesOf 2 n ⌝ }
-{
-    n.to_be_bytes()
-}
-
-/// The four bytes of a number.
-pub(crate) fn bytes_u32(n: u32) -> [u8; 4]
-    ensures { λ r. ⌜ r ≡ bytesOf 4 n ⌝ }
-{
-    n.to_be_bytes()
 }

@@ -1,17 +1,29 @@
 //! Reads a session file.
 ghost use mathlib.Core.Path.{_≡_};
+ghost use Prim.Native.Nat.{_+_, _≤_};
+ghost use lib.ListN.{length};
 ghost use Rattle.std.specs.Results.{Cases};
+ghost use Rattle.std.specs.shelf.Lists.{between};
 ghost use Rattle.std.specs.declared.result.Result.the-variants.{Ok, Err};
+ghost use Rattle.records.specs.Bytes.{be};
 ghost use Rattle.records.specs.Event.{seen};
 ghost use Rattle.sessions.specs.Reading.{opened, admitted, countIn, depositAt, eventAt};
-use crate::fault::FileFault;
 use crate::head::check;
 use crate::head::count_of;
 use crate::head::place_of;
 use crate::number::read_u32;
-use crate::section::Section;
+use faults::FileFault;
+use faults::Section;
 use records::Event;
 use records::decode;
+
+// The deposit whose bytes begin here.
+fn deposit_in(bytes: &[u8], at: usize) -> u32
+    requires { ⌜ at + 4 ≤ length (now bytes) ⌝ }
+    ensures { λ r. ⌜ r ≡ be 4 (between at (at + 4) (now (bytes .entry))) 0 ⌝ }
+{
+    read_u32(bytes, at)
+}
 
 /// The most bytes that a program takes as a session file.
 pub const MOST_BYTES: usize = 65_536;
@@ -56,7 +68,7 @@ impl<'a> Reader<'a> {
         ensures { λ r. ⌜ r ≡ depositAt (now (now (self .entry) .bytes)) number ⌝ }
     {
         let at = place_of(self.bytes, Section::Deposits, number)?;
-        Ok(read_u32(self.bytes, at))
+        Ok(deposit_in(self.bytes, at))
     }
 
     /// The event of this number.

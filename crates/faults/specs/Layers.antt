@@ -1,0 +1,11 @@
+-- The name that a layer is printed under.
+use mathlib.Core.List.{List}
+use Prim.Native.Nat.{ℕ}
+use lib.Chars.{codes}
+use Rattle.faults.specs.declared.layer.Layer.{Layer}
+use Rattle.faults.specs.declared.layer.Layer.the-variants.{Book, Sale, File}
+
+abbrev pub layerName : Layer → List ℕ
+layerName Book = codes "book"
+layerName Sale = codes "sale"
+layerName File = codes "file"

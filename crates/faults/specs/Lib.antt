@@ -1,0 +1,4 @@
+pub mod Layers
+pub mod Sections
+pub mod Records
+pub mod Files

@@ -1,0 +1,8 @@
+-- Where the header of a session file keeps the offset of a section, in four bytes.
+use Prim.Native.Nat.{ℕ}
+use Rattle.faults.specs.declared.section.Section.{Section}
+use Rattle.faults.specs.declared.section.Section.the-variants.{Deposits, Events}
+
+abbrev pub offsetAt : Section → ℕ
+offsetAt Deposits = 8
+offsetAt Events = 12

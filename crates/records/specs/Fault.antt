@@ -1,9 +1,0 @@
--- The number of each refusal of one event.
-use Prim.Native.Nat.{ℕ}
-use Rattle.records.specs.declared.fault.RecordFault.{RecordFault}
-use Rattle.records.specs.declared.fault.RecordFault.the-variants.{RowLength, UnknownKind, NotZero}
-
-abbrev pub recordNumber : RecordFault → ℕ
-recordNumber RowLength = 9
-recordNumber UnknownKind = 33
-recordNumber NotZero = 34

@@ -1,0 +1,5 @@
+pub mod Written
+pub mod Puts
+pub mod Layouts
+pub mod Sections
+pub mod Wholes

@@ -1,9 +1,0 @@
-use mathlib.Core.Path.{_∙_}
-use native.Mathlib.Omega.{arith}
-use Rattle.sessions.proofs.Puts.{deposit-put}
-use Rattle.sessions.proofs.writer.put_deposit.Needs as need
-
-pub returns : need.returns
-returns c =
-    let p = deposit-put _ _ (c .args .number) _ (c .args .dollars) (c .in-Continue-at .ensures tt .value) (omega arith) (c .copy-from-slice .ensures .after ∙ c .bytes-u32 .ensures) in
-    record { wrote = p .0; reads = p .1 }
