@@ -1,5 +1,7 @@
 //! The session file, written: into memory that is lent, record by record or whole.
 mod number;
+#[cfg(test)]
+mod tests;
 mod whole;
 mod writer;
 

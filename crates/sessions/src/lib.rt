@@ -2,6 +2,8 @@
 mod head;
 mod number;
 mod reader;
+#[cfg(test)]
+mod tests;
 
 pub use head::LETTERS;
 pub use head::place_of;

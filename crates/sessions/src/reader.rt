@@ -7,6 +7,7 @@ ghost use Rattle.std.specs.shelf.Lists.{between};
 ghost use Rattle.std.specs.declared.result.Result.the-variants.{Ok, Err};
 ghost use Rattle.records.specs.Bytes.{be};
 ghost use Rattle.records.specs.Event.{seen};
+ghost use Rattle.sessions.specs.Lent.{lent};
 ghost use Rattle.sessions.specs.Reading.{opened, admitted, countIn, depositAt, eventAt};
 use crate::head::check;
 use crate::head::count_of;
@@ -37,7 +38,7 @@ pub struct Reader<'a> {
 impl<'a> Reader<'a> {
     /// A reader of these bytes, if they are a session file.
     pub fn new(bytes: &'a [u8]) -> Result<Reader<'a>, FileFault>
-        ensures { λ r. ⌜ Cases r (λ x. (now (x .bytes) ≡ now (bytes .entry)) × (opened (now (bytes .entry)) ≡ Ok tt)) (λ f. opened (now (bytes .entry)) ≡ Err f) ⌝ }
+        ensures { λ r. ⌜ Cases r (λ x. (lent x ≡ now (bytes .entry)) × (opened (now (bytes .entry)) ≡ Ok tt)) (λ f. opened (now (bytes .entry)) ≡ Err f) ⌝ }
     {
         check(bytes)?;
         Ok(Reader { bytes })
@@ -45,7 +46,7 @@ impl<'a> Reader<'a> {
 
     /// The same for a program's input, which may have 65,536 bytes at most.
     pub fn of_input(bytes: &'a [u8]) -> Result<Reader<'a>, FileFault>
-        ensures { λ r. ⌜ Cases r (λ x. (now (x .bytes) ≡ now (bytes .entry)) × (admitted (now (bytes .entry)) ≡ Ok tt)) (λ f. admitted (now (bytes .entry)) ≡ Err f) ⌝ }
+        ensures { λ r. ⌜ Cases r (λ x. (lent x ≡ now (bytes .entry)) × (admitted (now (bytes .entry)) ≡ Ok tt)) (λ f. admitted (now (bytes .entry)) ≡ Err f) ⌝ }
     {
         if bytes.len() > MOST_BYTES {
             return Err(FileFault::Oversize);
@@ -55,7 +56,7 @@ impl<'a> Reader<'a> {
 
     /// How many records the section has.
     pub fn count(&self, section: Section) -> usize
-        ensures { λ r. ⌜ r ≡ countIn section (now (now (self .entry) .bytes)) ⌝ }
+        ensures { λ r. ⌜ r ≡ countIn section (lent (now (self .entry))) ⌝ }
     {
         match check(self.bytes) {
             Ok(()) => count_of(self.bytes, section),
@@ -65,7 +66,7 @@ impl<'a> Reader<'a> {
 
     /// The deposit of this number, in dollars.
     pub fn deposit(&self, number: usize) -> Result<u32, FileFault>
-        ensures { λ r. ⌜ r ≡ depositAt (now (now (self .entry) .bytes)) number ⌝ }
+        ensures { λ r. ⌜ r ≡ depositAt (lent (now (self .entry))) number ⌝ }
     {
         let at = place_of(self.bytes, Section::Deposits, number)?;
         Ok(deposit_in(self.bytes, at))
@@ -73,7 +74,7 @@ impl<'a> Reader<'a> {
 
     /// The event of this number.
     pub fn event(&self, number: usize) -> Result<Event<'a>, FileFault>
-        ensures { λ r. ⌜ seen r ≡ eventAt (now (now (self .entry) .bytes)) number ⌝ }
+        ensures { λ r. ⌜ seen r ≡ eventAt (lent (now (self .entry))) number ⌝ }
     {
         let at = place_of(self.bytes, Section::Events, number)?;
         match <&[u8; 16]>::try_from(&self.bytes[at..at + 16]) {

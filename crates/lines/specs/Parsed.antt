@@ -1,0 +1,82 @@
+-- What one line of a session's text says.
+use mathlib.Core.Bool.{Bool, true, cond}
+use mathlib.Core.List.{List, [], _∷_}
+use Prim.Native.Nat.{ℕ, _-_, _^_}
+use lib.Chars.{codes}
+use lib.Dec.{eqb}
+use lib.ListN.{getD, replicate}
+use Rattle.std.specs.declared.option.Option.{Option}
+use Rattle.std.specs.declared.option.Option.the-variants.{Some, None}
+use Rattle.std.specs.declared.result.Result.{Result}
+use Rattle.std.specs.declared.result.Result.the-variants.{Ok, Err}
+use Rattle.std.specs.shelf.Text.{sameBytes}
+use Rattle.records.specs.Event.{opening, newStep, raise, close, changeover}
+use Rattle.lines.specs.declared.fault.LineFault.{LineFault}
+use Rattle.lines.specs.declared.fault.LineFault.the-variants.{UnknownWord}
+use Rattle.lines.specs.Record.{Record, deposit, event}
+use Rattle.lines.specs.Row.{rowOf}
+use Rattle.lines.specs.Words.{word, rest}
+use Rattle.lines.specs.Fields.{fields}
+
+-- the most that a number of so many bits can be
+abbrev pub most : ℕ → ℕ
+most bits = 2 ^ bits - 1
+
+-- the most that each field of a line may be, by the line's kind
+abbrev pub depositLimits : List ℕ
+depositLimits = most 32 ∷ []
+
+abbrev pub openLimits : List ℕ
+openLimits = replicate 7 (most 16)
+
+abbrev pub enterLimits : List ℕ
+enterLimits = most 8 ∷ most 8 ∷ most 8 ∷ most 16 ∷ most 64 ∷ []
+
+abbrev pub raiseLimits : List ℕ
+raiseLimits = most 8 ∷ most 16 ∷ most 8 ∷ most 16 ∷ most 64 ∷ []
+
+-- what the numbers in the fields say: dollars
+abbrev pub depositOf : List ℕ → Record
+depositOf ns = deposit (getD ns 0 0)
+
+-- the increments of a row
+abbrev pub openOf : List ℕ → Record
+openOf ns = event (opening (rowOf ns))
+
+-- seat, market, shares, discount and stamp
+abbrev pub enterOf : List ℕ → Record
+enterOf ns = event (newStep (getD ns 0 0) (getD ns 1 0) (getD ns 2 0) (getD ns 3 0) (getD ns 4 0))
+
+-- seat, step, shares, discount and stamp
+abbrev pub raiseOf : List ℕ → Record
+raiseOf ns = event (raise (getD ns 0 0) (getD ns 2 0) (getD ns 1 0) (getD ns 3 0) (getD ns 4 0))
+
+-- what a line says whose fields are these, unless one is refused
+abbrev pub filled : (List ℕ → Record) → Result (List ℕ) LineFault → Result Record LineFault
+filled make (Ok ns) = Ok (make ns)
+filled make (Err f) = Err f
+
+-- what a line says, by its first word
+abbrev pub said : (first text : List ℕ) → Result Record LineFault
+said first text =
+    cond (sameBytes first (codes "deposit")) (filled depositOf (fields depositLimits 1 text))
+    (cond (sameBytes first (codes "open")) (filled openOf (fields openLimits 1 text))
+    (cond (sameBytes first (codes "enter")) (filled enterOf (fields enterLimits 1 text))
+    (cond (sameBytes first (codes "raise")) (filled raiseOf (fields raiseLimits 1 text))
+    (cond (sameBytes first (codes "close")) (filled (λ _. event close) (fields [] 1 text))
+    (cond (sameBytes first (codes "changeover")) (filled (λ _. event changeover) (fields [] 1 text))
+    (Err UnknownWord))))))
+
+-- no word, or one that begins with '#': the line says nothing
+abbrev pub silent : List ℕ → Bool
+silent [] = true
+silent (b ∷ bs) = eqb b 35
+
+-- something is said, unless it is refused
+abbrev pub spoken : Result Record LineFault → Result (Option Record) LineFault
+spoken (Ok r) = Ok (Some r)
+spoken (Err f) = Err f
+
+-- what a line says, if anything
+abbrev pub parsed : List ℕ → Result (Option Record) LineFault
+parsed line = cond (silent (word line)) (Ok None) (spoken (said (word line) (rest line)))
