@@ -1,8 +1,10 @@
 //! One line as a value.
 ghost use mathlib.Core.Path.{_≡_};
+ghost use mathlib.Core.Bool.{true};
 ghost use Rattle.std.specs.Options.{mapped};
 ghost use Rattle.std.specs.declared.option.Option.the-variants.{Some};
-ghost use Rattle.records.specs.Event.{valueOf};
+ghost use Rattle.std.specs.Slices.{found};
+ghost use Rattle.records.specs.Event.{valueOf, rowFits};
 ghost use Rattle.lines.specs.Record.{recordOf, eventIn, lineOf, keptAs};
 ghost use Rattle.lines.specs.Shown.{shownRecord};
 use crate::row::steps_of;
@@ -40,7 +42,8 @@ pub enum Line {
 impl Line {
     /// The event that the line stands for: every line but a deposit does.
     pub fn event(&self) -> Option<Event<'_>>
-        ensures { λ r. ⌜ mapped valueOf r ≡ eventIn (recordOf (now (self .entry))) ⌝ }
+        ensures value { λ r. ⌜ mapped valueOf r ≡ eventIn (recordOf (now (self .entry))) ⌝ }
+        ensures row { λ r. ⌜ found r (λ e. rowFits (valueOf e) ≡ true) ⌝ }
     {
         match self {
             Line::Deposit(_) => None,

@@ -1,4 +1,4 @@
-//! A session file as text, and text as a session file.
+//! A session file as text.
 mod list;
 
 pub use list::list_session;

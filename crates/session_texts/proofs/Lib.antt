@@ -1,0 +1,4 @@
+pub mod Drafts
+pub mod Cuts
+pub mod Among
+pub mod Files

@@ -1,0 +1,5 @@
+pub mod Lines
+pub mod Records
+pub mod Faults
+pub mod Told
+pub mod Drafts

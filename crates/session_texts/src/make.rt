@@ -1,0 +1,88 @@
+//! Makes the session file that a text tells.
+ghost use mathlib.Core.Path.{_≡_};
+ghost use mathlib.Core.Bool.{true};
+ghost use mathlib.Core.List.{map};
+ghost use Prim.Native.Nat.{_≤_};
+ghost use lib.ListN.{length};
+ghost use Rattle.std.specs.Of.Vec.{vec-items};
+ghost use Rattle.std.specs.Vec.{made};
+ghost use Rattle.std.specs.shelf.Lists.{All};
+ghost use Rattle.records.specs.Event.{valueOf, rowFits};
+ghost use Rattle.lines.specs.Record.{recordOf};
+ghost use Rattle.sessions.specs.Layout.{sizeOf};
+ghost use Rattle.session_writer.specs.Writing.{sessionBytes};
+ghost use Rattle.session_texts.specs.Records.{depositsIn, eventsIn, fileOf};
+ghost use Rattle.session_texts.specs.Drafts.{recordsOf, MadeFrom};
+use crate::draft::Draft;
+use crate::fault::MakeFault;
+use crate::hear::hear_text;
+use lines::Line;
+use records::Event;
+use session_writer::put_session;
+use std::alloc::AllocError;
+use std::alloc::Global;
+
+// The deposits among these lines.
+fn deposits_in(heap: Global, lines: &[Line]) -> Result<Vec<u32>, AllocError>
+    ensures { λ r. ⌜ made r (λ v. vec-items v ≡ depositsIn (map recordOf (now (lines .entry)))) ⌝ }
+{
+    let mut deposits = Vec::new(heap);
+    for line in lines {
+        let Line::Deposit(dollars) = line else {
+            continue;
+        };
+        deposits.push(*dollars)?;
+    }
+    Ok(deposits)
+}
+
+// The events among these lines.
+fn events_in(heap: Global, lines: &[Line]) -> Result<Vec<Event<'_>>, AllocError>
+    ensures value { λ r. ⌜ made r (λ v. map valueOf (vec-items v) ≡ eventsIn (map recordOf (now (lines .entry)))) ⌝ }
+    ensures rows { λ r. ⌜ made r (λ v. All (λ e. rowFits (valueOf e) ≡ true) (vec-items v)) ⌝ }
+{
+    let mut events = Vec::new(heap);
+    for line in lines {
+        let Some(event) = line.event() else {
+            continue;
+        };
+        events.push(event)?;
+    }
+    Ok(events)
+}
+
+// The file of these deposits and events, which has so many bytes.
+fn file_of(heap: Global, size: usize, deposits: &[u32], events: &[Event]) -> Result<Vec<u8>, AllocError>
+    requires size { ⌜ size ≡ sizeOf (length (now deposits)) (length (now events)) ⌝ }
+    requires small { ⌜ size ≤ 65536 ⌝ }
+    requires rows { ⌜ All (λ e. rowFits (valueOf e) ≡ true) (now events) ⌝ }
+    ensures { λ r. ⌜ made r (λ v. vec-items v ≡ sessionBytes (now (deposits .entry)) (map valueOf (now (events .entry)))) ⌝ }
+{
+    let mut file = vec![in heap; 0; size]?;
+    match put_session(&mut file, deposits, events) {
+        Ok(()) => Ok(file),
+        Err(_) => unreachable(),
+    }
+}
+
+impl Draft {
+    // The file of what was told.
+    fn file(&self, heap: Global) -> Result<Vec<u8>, AllocError>
+        ensures { λ r. ⌜ made r (λ v. vec-items v ≡ fileOf (recordsOf (now (self .entry)))) ⌝ }
+    {
+        let deposits = deposits_in(heap, &self.lines)?;
+        let events = events_in(heap, &self.lines)?;
+        file_of(heap, self.size, &deposits, &events)
+    }
+}
+
+/// The session file that a text tells, or the first line at fault.
+pub fn make_session(heap: Global, text: &[u8]) -> Result<Vec<u8>, MakeFault>
+    ensures { λ r. ⌜ MadeFrom r (now (text .entry)) ⌝ }
+{
+    let draft = hear_text(heap, text)?;
+    match draft.file(heap) {
+        Ok(file) => Ok(file),
+        Err(_) => Err(MakeFault::Memory),
+    }
+}
