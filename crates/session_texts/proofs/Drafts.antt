@@ -13,11 +13,11 @@ use Rattle.lines.specs.Record.{Record, recordOf}
 use Rattle.session_texts.specs.Records.{recordSize, fileSize, isEvent, hasEvent}
 use Rattle.session_texts.specs.Told.{added}
 
-fileSize-push : (rs : List Record) (r : Record) → fileSize (rs ++ (r ∷ [])) ≡ fileSize rs + recordSize r
+pub fileSize-push : (rs : List Record) (r : Record) → fileSize (rs ++ (r ∷ [])) ≡ fileSize rs + recordSize r
 fileSize-push [] r = omega arith
 fileSize-push (x ∷ rs) r = let h = fileSize-push rs r in omega arith
 
-hasEvent-append : (rs : List Record) (r : Record) → hasEvent (rs ++ (r ∷ [])) ≡ (hasEvent rs || isEvent r)
+pub hasEvent-append : (rs : List Record) (r : Record) → hasEvent (rs ++ (r ∷ [])) ≡ (hasEvent rs || isEvent r)
 hasEvent-append [] r = grind (arith, tells)
 hasEvent-append (x ∷ rs) r = let h = hasEvent-append rs r in grind (arith, tells)
 

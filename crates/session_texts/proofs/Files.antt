@@ -82,7 +82,7 @@ module _ (ms ds : List ℕ) (es : List Event) (size : ℕ) (long : length ms ≡
       take-at new rest size (ap length same ∙ length-session ds (map valueOf es) (rows-of-values es rows) ∙ omega arith) ∙ same
 
 -- the size that was counted is that of the file
-size-counted : (rs : List Record) → fileSize rs ≡ sizeOf (length (depositsIn rs)) (length (eventsIn rs))
+pub size-counted : (rs : List Record) → fileSize rs ≡ sizeOf (length (depositsIn rs)) (length (eventsIn rs))
 size-counted [] = refl
 size-counted (deposit dollars ∷ rs) = let h = size-counted rs in omega arith
 size-counted (event e ∷ rs) = let h = size-counted rs in omega arith

@@ -3,3 +3,4 @@ pub mod Records
 pub mod Faults
 pub mod Told
 pub mod Drafts
+pub mod Again

@@ -13,6 +13,7 @@ ghost use Rattle.sessions.specs.Layout.{sizeOf};
 ghost use Rattle.session_writer.specs.Writing.{sessionBytes};
 ghost use Rattle.session_texts.specs.Records.{depositsIn, eventsIn, fileOf};
 ghost use Rattle.session_texts.specs.Drafts.{recordsOf, MadeFrom};
+ghost use Rattle.session_texts.specs.Again.{MadeAgain};
 use crate::draft::Draft;
 use crate::fault::MakeFault;
 use crate::hear::hear_text;
@@ -76,8 +77,8 @@ impl Draft {
     }
 }
 
-/// The session file that a text tells, or the first line at fault.
-pub fn make_session(heap: Global, text: &[u8]) -> Result<Vec<u8>, MakeFault>
+// The file of what a text tells.
+fn make_told(heap: Global, text: &[u8]) -> Result<Vec<u8>, MakeFault>
     ensures { λ r. ⌜ MadeFrom r (now (text .entry)) ⌝ }
 {
     let draft = hear_text(heap, text)?;
@@ -85,4 +86,20 @@ pub fn make_session(heap: Global, text: &[u8]) -> Result<Vec<u8>, MakeFault>
         Ok(file) => Ok(file),
         Err(_) => Err(MakeFault::Memory),
     }
+}
+
+// The same, with what follows for the listing of a file.
+fn make_again(heap: Global, text: &[u8]) -> Result<Vec<u8>, MakeFault>
+    ensures made { λ r. ⌜ MadeFrom r (now (text .entry)) ⌝ }
+    ensures again { λ r. ⌜ MadeAgain r (now (text .entry)) ⌝ }
+{
+    make_told(heap, text)
+}
+
+/// The session file that a text tells, or the first line at fault. The listing of a file makes that file again.
+pub fn make_session(heap: Global, text: &[u8]) -> Result<Vec<u8>, MakeFault>
+    ensures made { λ r. ⌜ MadeFrom r (now (text .entry)) ⌝ }
+    ensures again { λ r. ⌜ MadeAgain r (now (text .entry)) ⌝ }
+{
+    make_again(heap, text)
 }

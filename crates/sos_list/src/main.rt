@@ -15,5 +15,11 @@ fn list(rt: &LibcRuntime) -> Result<(), AnyError> {
 }
 
 fn main(rt: LibcRuntime) -> Result<(), AnyError> {
-    rt.report(list(&rt))
+    match list(&rt) {
+        Ok(()) => Ok(()),
+        Err(error) => {
+            eprintln!(rt, "sos-list: {error}")?;
+            Err(error)
+        }
+    }
 }
