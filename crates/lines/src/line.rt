@@ -8,8 +8,8 @@ ghost use Rattle.records.specs.Event.{valueOf, rowFits};
 ghost use Rattle.lines.specs.Record.{recordOf, eventIn, lineOf, keptAs};
 ghost use Rattle.lines.specs.Shown.{shownRecord};
 use crate::row::steps_of;
-use records::Event;
 use faults::RecordFault;
+use records::Event;
 use std::fmt;
 
 /// One line of a session's text.

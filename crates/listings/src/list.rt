@@ -59,7 +59,12 @@ fn line_or_remark(
 }
 
 // The line of the record of this number.
-fn record_line(heap: Global, reader: &Reader, section: Section, number: usize) -> Result<String, AllocError>
+fn record_line(
+    heap: Global,
+    reader: &Reader,
+    section: Section,
+    number: usize,
+) -> Result<String, AllocError>
     ensures { λ r. ⌜ made r (λ s. string-bytes s ≡ recordLine section (lent (now (reader .entry))) number) ⌝ }
 {
     line_or_remark(heap, section, number, record_in(reader, section, number))

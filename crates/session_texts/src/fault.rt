@@ -2,13 +2,12 @@
 ghost use Rattle.std.specs.declared.option.Option.the-variants.{Some};
 ghost use Rattle.session_texts.specs.Faults.{shownText, shownMake};
 use lines::LineFault;
+use lines::LineFaultDebug;
 use lines::LineFaultDisplay;
-use std::alloc::AllocError;
-use std::alloc::Refused;
 use std::fmt;
 
 /// What is wrong with a line, where it stands in its text.
-#[derive(Clone, Copy)]
+#[derive(Clone, Copy, Debug)]
 pub enum TextFault {
     /// The line can't be read.
     BadLine(LineFault),
@@ -31,7 +30,7 @@ pub impl fmt::Display for TextFault as TextFaultDisplay {
 }
 
 /// Why no file was made.
-#[derive(Clone, Copy)]
+#[derive(Clone, Copy, Debug)]
 pub enum MakeFault {
     /// The line of this number, from 1, is at fault.
     Line(usize, TextFault),

@@ -24,7 +24,11 @@ fn record_size(line: &Line) -> usize
 {
     match line {
         Line::Deposit(_) => 4,
-        Line::Open(_) | Line::NewStep { .. } | Line::Raise { .. } | Line::Close | Line::Changeover => 16,
+        Line::Open(_)
+        | Line::NewStep { .. }
+        | Line::Raise { .. }
+        | Line::Close
+        | Line::Changeover => 16,
     }
 }
 
@@ -34,7 +38,11 @@ fn is_event(line: &Line) -> bool
 {
     match line {
         Line::Deposit(_) => false,
-        Line::Open(_) | Line::NewStep { .. } | Line::Raise { .. } | Line::Close | Line::Changeover => true,
+        Line::Open(_)
+        | Line::NewStep { .. }
+        | Line::Raise { .. }
+        | Line::Close
+        | Line::Changeover => true,
     }
 }
 

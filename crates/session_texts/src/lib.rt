@@ -3,6 +3,8 @@ mod draft;
 mod fault;
 mod hear;
 mod make;
+#[cfg(test)]
+mod tests;
 
 pub use fault::MakeFault;
 pub use fault::MakeFaultDisplay;

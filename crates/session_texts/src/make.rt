@@ -53,7 +53,12 @@ fn events_in(heap: Global, lines: &[Line]) -> Result<Vec<Event<'_>>, AllocError>
 }
 
 // The file of these deposits and events, which has so many bytes.
-fn file_of(heap: Global, size: usize, deposits: &[u32], events: &[Event]) -> Result<Vec<u8>, AllocError>
+fn file_of(
+    heap: Global,
+    size: usize,
+    deposits: &[u32],
+    events: &[Event],
+) -> Result<Vec<u8>, AllocError>
     requires size { ⌜ size ≡ sizeOf (length (now deposits)) (length (now events)) ⌝ }
     requires small { ⌜ size ≤ 65536 ⌝ }
     requires rows { ⌜ All (λ e. rowFits (valueOf e) ≡ true) (now events) ⌝ }

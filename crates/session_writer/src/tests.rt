@@ -49,7 +49,10 @@ fn a_refused_record_leaves_the_memory() -> Result<(), Fail> {
     let before = memory;
     check_eq(put_deposit(&mut memory, 0, 5), Err(FileFault::NoRecord(0)))?;
     check_eq(put_deposit(&mut memory, 3, 5), Err(FileFault::NoRecord(3)))?;
-    check_eq(put_event(&mut memory, 3, Event::Close), Err(FileFault::NoRecord(3)))?;
+    check_eq(
+        put_event(&mut memory, 3, Event::Close),
+        Err(FileFault::NoRecord(3)),
+    )?;
     check_eq(
         put_event(&mut memory, 2, Event::Open(&ROW[0..13])),
         Err(FileFault::Record(2, RecordFault::RowLength)),
@@ -64,10 +67,37 @@ fn a_whole_session_is_written_or_nothing(rt: LibcRuntime) -> Result<(), Fail> {
     events.push(Event::Open(&ROW))?;
     let mut memory = [7u8; 53];
     put_session(&mut memory, &[9], &events)?;
-    check(memory[0..20] == [83, 79, 83, 65, 0, 1, 0, 2, 0, 0, 0, 16, 0, 0, 0, 20, 0, 0, 0, 9])?;
+    check(
+        memory[0..20]
+            == [
+                83,
+                79,
+                83,
+                65,
+                0,
+                1,
+                0,
+                2,
+                0,
+                0,
+                0,
+                16,
+                0,
+                0,
+                0,
+                20,
+                0,
+                0,
+                0,
+                9,
+            ],
+    )?;
     check(memory[20] == 4 && memory[36] == 1 && memory[39] == 100 && memory[52] == 7)?;
     let before = memory;
-    check_eq(put_session(&mut memory, &[9, 9], &events), Err(FileFault::NoRoom))?;
+    check_eq(
+        put_session(&mut memory, &[9, 9], &events),
+        Err(FileFault::NoRoom),
+    )?;
     events.push(Event::Open(&ROW[0..2]))?;
     let mut large = [7u8; 80];
     check_eq(

@@ -11,8 +11,62 @@ use std::test::*;
 
 // Two deposits at 16, a closing and an unknown event at 24: 56 bytes.
 const FILE: [u8; 56] = [
-    83, 79, 83, 65, 0, 2, 0, 2, 0, 0, 0, 16, 0, 0, 0, 24, 0, 213, 159, 128, 255, 255, 255, 255, 4, 0, 0, 0, 0, 0, 0, 0,
-    0, 0, 0, 0, 0, 0, 0, 0, 9, 0, 0, 0, 0, 0, 0, 0, 0, 0, 0, 0, 0, 0, 0, 0,
+    83,
+    79,
+    83,
+    65,
+    0,
+    2,
+    0,
+    2,
+    0,
+    0,
+    0,
+    16,
+    0,
+    0,
+    0,
+    24,
+    0,
+    213,
+    159,
+    128,
+    255,
+    255,
+    255,
+    255,
+    4,
+    0,
+    0,
+    0,
+    0,
+    0,
+    0,
+    0,
+    0,
+    0,
+    0,
+    0,
+    0,
+    0,
+    0,
+    0,
+    9,
+    0,
+    0,
+    0,
+    0,
+    0,
+    0,
+    0,
+    0,
+    0,
+    0,
+    0,
+    0,
+    0,
+    0,
+    0,
 ];
 
 fn refusal(bytes: &[u8]) -> Option<FileFault> {
@@ -25,9 +79,26 @@ fn refusal(bytes: &[u8]) -> Option<FileFault> {
 // The refusal of a header with these counts and offsets, in a file of so many bytes.
 fn header_refusal(counts: [u8; 2], offsets: [u8; 2], length: usize) -> Option<FileFault> {
     let mut bytes = [7u8; 200];
-    bytes[0..16].copy_from_slice(&[
-        83, 79, 83, 65, 0, counts[0], 0, counts[1], 0, 0, 0, offsets[0], 0, 0, 0, offsets[1],
-    ]);
+    bytes[0..16].copy_from_slice(
+        &[
+            83,
+            79,
+            83,
+            65,
+            0,
+            counts[0],
+            0,
+            counts[1],
+            0,
+            0,
+            0,
+            offsets[0],
+            0,
+            0,
+            0,
+            offsets[1],
+        ],
+    );
     refusal(&bytes[0..length.min(200)])
 }
 
@@ -51,13 +122,19 @@ fn no_other_number_has_a_record() -> Result<(), Fail> {
     check_eq(reader.deposit(0).err(), Some(FileFault::NoRecord(0)))?;
     check_eq(reader.deposit(3).err(), Some(FileFault::NoRecord(3)))?;
     check_eq(place_of(&FILE, Section::Events, 2), Ok(40))?;
-    check_eq(place_of(&FILE, Section::Events, 3), Err(FileFault::NoRecord(3)))
+    check_eq(
+        place_of(&FILE, Section::Events, 3),
+        Err(FileFault::NoRecord(3)),
+    )
 }
 
 #[test]
 fn a_header_has_16_bytes_and_the_letters() -> Result<(), Fail> {
     check_eq(refusal(&[]), Some(FileFault::Short(0)))?;
-    check_eq(header_refusal([0, 0], [16, 16], 15), Some(FileFault::Short(15)))?;
+    check_eq(
+        header_refusal([0, 0], [16, 16], 15),
+        Some(FileFault::Short(15)),
+    )?;
     check_eq(header_refusal([0, 0], [16, 16], 16), None)?;
     let mut other = FILE;
     other[3] = b'a';
@@ -83,9 +160,15 @@ fn sections_lie_behind_the_header_and_within_the_file() -> Result<(), Fail> {
 #[test]
 fn sections_share_no_byte() -> Result<(), Fail> {
     check_eq(header_refusal([2, 1], [16, 24], 40), None)?;
-    check_eq(header_refusal([2, 1], [16, 23], 40), Some(FileFault::Overlap))?;
+    check_eq(
+        header_refusal([2, 1], [16, 23], 40),
+        Some(FileFault::Overlap),
+    )?;
     check_eq(header_refusal([2, 1], [32, 16], 40), None)?;
-    check_eq(header_refusal([2, 1], [31, 16], 40), Some(FileFault::Overlap))?;
+    check_eq(
+        header_refusal([2, 1], [31, 16], 40),
+        Some(FileFault::Overlap),
+    )?;
     check_eq(header_refusal([0, 1], [20, 16], 40), None)?;
     check_eq(header_refusal([2, 0], [16, 20], 40), None)
 }

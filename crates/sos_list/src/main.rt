@@ -8,7 +8,9 @@ use std::io::ReadMethods;
 // One byte more than a session file may have tells that the input is too long, and no more is held.
 fn list(rt: &LibcRuntime) -> Result<(), AnyError> {
     let mut bytes = Vec::new(rt.alloc());
-    rt.stdin().take(MOST_BYTES as u64 + 1).read_to_end(&mut bytes)?;
+    rt.stdin()
+        .take(MOST_BYTES as u64 + 1)
+        .read_to_end(&mut bytes)?;
     let text = list_session(rt.alloc(), &bytes)?;
     rt.print(text.as_str())?;
     Ok(())

@@ -5,10 +5,13 @@ use Rattle.session_texts.proofs.draft.Draft.add.Needs as need
 
 pub ghost-self : need.ghost-self
 ghost-self c =
-    let p = c .in-Ok .ensures tt .items in
-    (size-pushed (vec-items (c .args .self .now .lines)) _ (c .args .line) p _ _ (c .args .self .now .sized) (c .record-size-width .ensures),
-    (omega arith,
-    (event-pushed (vec-items (c .args .self .now .lines)) _ (c .args .line) p _ _ _ (c .is-event-is-event .ensures) (c .args .self .now .told) (c .is-late .ensures) (c .if-is-late .left), tt)))
+    let p = c .in-Ok .ensures tt .items in (
+      size-pushed (vec-items (c .args .self .now .lines)) _ (c .args .line) p _ _ (c .args .self .now .sized) (c .record-size-width .ensures),
+      (
+        omega arith,
+        (event-pushed (vec-items (c .args .self .now .lines)) _ (c .args .line) p _ _ _ (c .is-event-is-event .ensures) (c .args .self .now .told) (c .is-late .ensures) (c .if-is-late .left), tt),
+      ),
+    )
 
 pub returns-in-Ok : need.returns-in-Ok
 returns-in-Ok c =
