@@ -1,7 +1,8 @@
 //! The 16 bytes of an event, read and written.
 ghost use mathlib.Core.Path.{_≡_};
+ghost use Rattle.std.specs.declared.result.Result.the-variants.{Ok};
 ghost use Rattle.records.specs.Bytes.{allZero};
-ghost use Rattle.records.specs.Event.{seen, decoded, valueOf, Encoded, opening};
+ghost use Rattle.records.specs.Event.{seen, decoded, valueOf, Encoded, opening, newStep, raise};
 use crate::event::Event;
 use faults::RecordFault;
 
@@ -68,6 +69,59 @@ fn encode_opening(row: &[u8]) -> Result<[u8; 16], RecordFault>
     Ok(record)
 }
 
+// The bytes of a new step.
+fn encode_new_step(seat: u8, market: u8, shares: u8, discount: u16, stamp: u64) -> [u8; 16]
+    ensures { λ r. ⌜ Encoded (Ok r) (newStep seat market shares discount stamp) ⌝ }
+{
+    let [d0, d1] = discount.to_be_bytes();
+    let [t0, t1, t2, t3, t4, t5, t6, t7] = stamp.to_be_bytes();
+    [
+        2,
+        seat,
+        market,
+        shares,
+        0,
+        0,
+        d0,
+        d1,
+        t0,
+        t1,
+        t2,
+        t3,
+        t4,
+        t5,
+        t6,
+        t7,
+    ]
+}
+
+// The bytes of a raise.
+fn encode_raise(seat: u8, shares: u8, step: u16, discount: u16, stamp: u64) -> [u8; 16]
+    ensures { λ r. ⌜ Encoded (Ok r) (raise seat shares step discount stamp) ⌝ }
+{
+    let [p0, p1] = step.to_be_bytes();
+    let [d0, d1] = discount.to_be_bytes();
+    let [t0, t1, t2, t3, t4, t5, t6, t7] = stamp.to_be_bytes();
+    [
+        3,
+        seat,
+        shares,
+        0,
+        p0,
+        p1,
+        d0,
+        d1,
+        t0,
+        t1,
+        t2,
+        t3,
+        t4,
+        t5,
+        t6,
+        t7,
+    ]
+}
+
 /// The 16 bytes that keep this event, unless it is an opening whose row isn't 14 bytes.
 pub fn encode(event: Event) -> Result<[u8; 16], RecordFault>
     ensures { λ r. ⌜ Encoded r (valueOf (event .entry)) ⌝ }
@@ -80,57 +134,14 @@ pub fn encode(event: Event) -> Result<[u8; 16], RecordFault>
             shares,
             discount,
             stamp,
-        } => {
-            let [d0, d1] = discount.to_be_bytes();
-            let [t0, t1, t2, t3, t4, t5, t6, t7] = stamp.to_be_bytes();
-            Ok([
-                2,
-                seat,
-                market,
-                shares,
-                0,
-                0,
-                d0,
-                d1,
-                t0,
-                t1,
-                t2,
-                t3,
-                t4,
-                t5,
-                t6,
-                t7,
-            ])
-        }
+        } => Ok(encode_new_step(seat, market, shares, discount, stamp)),
         Event::Raise {
             seat,
             shares,
             step,
             discount,
             stamp,
-        } => {
-            let [p0, p1] = step.to_be_bytes();
-            let [d0, d1] = discount.to_be_bytes();
-            let [t0, t1, t2, t3, t4, t5, t6, t7] = stamp.to_be_bytes();
-            Ok([
-                3,
-                seat,
-                shares,
-                0,
-                p0,
-                p1,
-                d0,
-                d1,
-                t0,
-                t1,
-                t2,
-                t3,
-                t4,
-                t5,
-                t6,
-                t7,
-            ])
-        }
+        } => Ok(encode_raise(seat, shares, step, discount, stamp)),
         Event::Close => Ok([4, 0, 0, 0, 0, 0, 0, 0, 0, 0, 0, 0, 0, 0, 0, 0]),
         Event::Changeover => Ok([5, 0, 0, 0, 0, 0, 0, 0, 0, 0, 0, 0, 0, 0, 0, 0]),
     }
