@@ -1,0 +1,4 @@
+pub mod Lawful
+pub mod Replies
+pub mod Keeps
+pub mod Flat
