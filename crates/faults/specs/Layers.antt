@@ -5,7 +5,7 @@ use lib.Chars.{codes}
 use Rattle.faults.specs.declared.layer.Layer.{Layer}
 use Rattle.faults.specs.declared.layer.Layer.the-variants.{Book, Sale, File}
 
-abbrev pub layerName : Layer → List ℕ
-layerName Book = codes "book"
-layerName Sale = codes "sale"
-layerName File = codes "file"
+abbrev pub layer-name : Layer → List ℕ
+layer-name Book = codes "book"
+layer-name Sale = codes "sale"
+layer-name File = codes "file"

@@ -3,7 +3,7 @@ use Prim.Native.Nat.{ℕ}
 use Rattle.faults.specs.declared.record.RecordFault.{RecordFault}
 use Rattle.faults.specs.declared.record.RecordFault.the-variants.{RowLength, UnknownKind, NotZero}
 
-abbrev pub recordNumber : RecordFault → ℕ
-recordNumber RowLength = 9
-recordNumber UnknownKind = 33
-recordNumber NotZero = 34
+abbrev pub record-number : RecordFault → ℕ
+record-number RowLength = 9
+record-number UnknownKind = 33
+record-number NotZero = 34

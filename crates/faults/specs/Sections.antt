@@ -3,6 +3,6 @@ use Prim.Native.Nat.{ℕ}
 use Rattle.faults.specs.declared.section.Section.{Section}
 use Rattle.faults.specs.declared.section.Section.the-variants.{Deposits, Events}
 
-abbrev pub offsetAt : Section → ℕ
-offsetAt Deposits = 8
-offsetAt Events = 12
+abbrev pub offset-at : Section → ℕ
+offset-at Deposits = 8
+offset-at Events = 12

@@ -1,6 +1,6 @@
 //! Why a session file, or a record of it, is refused.
 ghost use mathlib.Core.Path.{_≡_};
-ghost use Rattle.faults.specs.Files.{faultNumber, faultPlace};
+ghost use Rattle.faults.specs.Files.{fault-number, fault-place};
 ghost use Rattle.faults.specs.declared.layer.Layer.the-variants.{File as FileLayer};
 use crate::layer::Layer;
 use crate::record::RecordFault;
@@ -38,7 +38,7 @@ pub enum FileFault {
 impl FileFault {
     /// The number that the refusal is printed under.
     pub fn number(self) -> u8
-        ensures { λ r. ⌜ r ≡ faultNumber self ⌝ }
+        ensures { λ r. ⌜ r ≡ fault-number self ⌝ }
     {
         match self {
             FileFault::Short(_) => 28,
@@ -62,7 +62,7 @@ impl FileFault {
 
     /// Where the refusal lies: a length, an offset in the header, or a record's number.
     pub fn place(self) -> usize
-        ensures { λ r. ⌜ r ≡ faultPlace self ⌝ }
+        ensures { λ r. ⌜ r ≡ fault-place self ⌝ }
     {
         match self {
             FileFault::Short(length) => length,

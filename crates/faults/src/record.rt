@@ -1,6 +1,6 @@
 //! Why one event can't be read or written, wherever it stands in a file.
 ghost use mathlib.Core.Path.{_≡_};
-ghost use Rattle.faults.specs.Records.{recordNumber};
+ghost use Rattle.faults.specs.Records.{record-number};
 
 /// A refusal of one event.
 #[derive(Clone, Copy, PartialEq, Eq, Debug)]
@@ -16,7 +16,7 @@ pub enum RecordFault {
 impl RecordFault {
     /// The number that the refusal is printed under.
     pub fn number(self) -> u8
-        ensures { λ r. ⌜ r ≡ recordNumber self ⌝ }
+        ensures { λ r. ⌜ r ≡ record-number self ⌝ }
     {
         match self {
             RecordFault::RowLength => 9,

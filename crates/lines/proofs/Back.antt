@@ -17,13 +17,13 @@ use Rattle.std.proofs.shelf.Decimals.{digits-decimal, value-decimal, decimal-so
 use Rattle.std.proofs.shelf.Elements.{all-append}
 use Rattle.std.proofs.shelf.Tests.{and-parts}
 use Rattle.std.proofs.shelf.Ways.{tells}
-use Rattle.records.specs.Event.{opening, newStep, raise, close, changeover}
+use Rattle.records.specs.Event.{opening, new-step, raise, close, changeover}
 use Rattle.lines.specs.Record.{Record, deposit, event, Fits}
 use Rattle.lines.specs.Words.{blank, skip, front, back, word, rest}
-use Rattle.lines.specs.Fields.{numberIn, fields}
-use Rattle.lines.specs.Row.{rowOf, increments}
-use Rattle.lines.specs.Parsed.{parsed, depositLimits, openLimits, enterLimits, raiseLimits, openOf, filled, spoken}
-use Rattle.lines.specs.Shown.{firstWord, numbersOf, listed, shownRecord, OneLine, Written}
+use Rattle.lines.specs.Fields.{number-in, fields}
+use Rattle.lines.specs.Row.{row-of, increments}
+use Rattle.lines.specs.Parsed.{parsed, deposit-limits, open-limits, enter-limits, raise-limits, open-of, filled, spoken}
+use Rattle.lines.specs.Shown.{first-word, numbers-of, listed, shown-record, OneLine, Written}
 use Rattle.lines.proofs.Figures.{figures, number-held}
 
 -- a digit is no blank
@@ -68,7 +68,7 @@ module _ (n : ℕ) (ns : List ℕ) (h : n < 2 ^ 64) where
       let d = digits-decimal figures n h in
       ap back (skip-digits (listed ns) (decimal n) d (decimal-some n h)) ∙ back-digits (listed ns) (decimal n) d (back-listed ns)
 
-  number-listed : (most at : ℕ) → n ≤ most → numberIn most at (decimal n) ≡ Ok n
+  number-listed : (most at : ℕ) → n ≤ most → number-in most at (decimal n) ≡ Ok n
   number-listed most at k =
       let v = value-decimal figures n h in
       number-held most at (decimal n) (decimal-some n h) (digits-decimal figures n h) (rw v k) ∙ ap (λ (x : ℕ). Ok x) v
@@ -86,7 +86,7 @@ fields-back (most ∷ limits) (n ∷ ns) at h =
     rw (word-listed n ns (h .0 .1), rest-listed n ns (h .0 .1), number-listed n ns (h .0 .1) most at (h .0 .0), fields-back limits ns (suc at) (h .1))
 
 -- a row of whole increments is made again from them
-pub row-back : (k : ℕ) (row : List ℕ) → length row ≡ 2 * k → ((j : ℕ) → getD row j 0 < 256) → rowOf (increments row) ≡ row
+pub row-back : (k : ℕ) (row : List ℕ) → length row ≡ 2 * k → ((j : ℕ) → getD row j 0 < 256) → row-of (increments row) ≡ row
 row-back k [] e h = refl
 row-back k (a ∷ []) e h = absurd (omega arith)
 row-back zero (a ∷ b ∷ bs) e h = absurd (omega arith)
@@ -109,36 +109,36 @@ increments-room (suc k) (a ∷ b ∷ bs) e h =
     ((omega arith, omega arith), increments-room k bs (omega arith) (λ j. h (suc (suc j))))
 
 -- the most that each number of a record may be
-abbrev limitsOf : Record → List ℕ
-limitsOf (deposit dollars) = depositLimits
-limitsOf (event (opening row)) = openLimits
-limitsOf (event (newStep seat market shares discount stamp)) = enterLimits
-limitsOf (event (raise seat shares step discount stamp)) = raiseLimits
-limitsOf (event close) = []
-limitsOf (event changeover) = []
+abbrev limits-of : Record → List ℕ
+limits-of (deposit dollars) = deposit-limits
+limits-of (event (opening row)) = open-limits
+limits-of (event (new-step seat market shares discount stamp)) = enter-limits
+limits-of (event (raise seat shares step discount stamp)) = raise-limits
+limits-of (event close) = []
+limits-of (event changeover) = []
 
 -- a record whose figures have their widths has room in its fields
-numbers-room : (r : Record) → Fits r → Room (limitsOf r) (numbersOf r)
+numbers-room : (r : Record) → Fits r → Room (limits-of r) (numbers-of r)
 numbers-room (deposit dollars) h = search needs
 numbers-room (event (opening row)) h = increments-room 7 row (h .0) (h .1)
-numbers-room (event (newStep seat market shares discount stamp)) h = search needs
+numbers-room (event (new-step seat market shares discount stamp)) h = search needs
 numbers-room (event (raise seat shares step discount stamp)) h = search needs
 numbers-room (event close) h = tt
 numbers-room (event changeover) h = tt
 
-numbers-back : (r : Record) → Fits r → fields (limitsOf r) 1 (listed (numbersOf r)) ≡ Ok (numbersOf r)
-numbers-back r h = fields-back (limitsOf r) (numbersOf r) 1 (numbers-room r h)
+numbers-back : (r : Record) → Fits r → fields (limits-of r) 1 (listed (numbers-of r)) ≡ Ok (numbers-of r)
+numbers-back r h = fields-back (limits-of r) (numbers-of r) 1 (numbers-room r h)
 
 -- the word of an opening is read, however many increments follow
-open-begun : (ns : List ℕ) → parsed (codes "open" ++ listed ns) ≡ spoken (filled openOf (fields openLimits 1 (listed ns)))
+open-begun : (ns : List ℕ) → parsed (codes "open" ++ listed ns) ≡ spoken (filled open-of (fields open-limits 1 (listed ns)))
 open-begun [] = refl
 open-begun (n ∷ ns) = refl
 
 -- what is shown of a record is parsed back
-pub line-back : (r : Record) → Fits r → parsed (shownRecord r) ≡ Ok (Some r)
+pub line-back : (r : Record) → Fits r → parsed (shown-record r) ≡ Ok (Some r)
 line-back (deposit dollars) h = rw (numbers-back (deposit dollars) h)
 line-back (event (opening row)) h = open-begun (increments row) ∙ rw (numbers-back (event (opening row)) h, row-back 7 row (h .0) (h .1))
-line-back (event (newStep seat market shares discount stamp)) h = rw (numbers-back (event (newStep seat market shares discount stamp)) h)
+line-back (event (new-step seat market shares discount stamp)) h = rw (numbers-back (event (new-step seat market shares discount stamp)) h)
 line-back (event (raise seat shares step discount stamp)) h = rw (numbers-back (event (raise seat shares step discount stamp)) h)
 line-back (event close) h = refl
 line-back (event changeover) h = refl
@@ -157,27 +157,27 @@ listed-runs-on (most ∷ limits) [] h = absurd h
 listed-runs-on (most ∷ limits) (n ∷ ns) h =
     (λ e. omega arith, all-append (λ b. b ≡ 10 → ⊥) (decimal n) (listed ns) (digits-run-on (decimal n) (digits-decimal figures n (h .0 .1))) (listed-runs-on limits ns (h .1)))
 
-word-runs-on : (r : Record) → OneLine (firstWord r)
+word-runs-on : (r : Record) → OneLine (first-word r)
 word-runs-on (deposit dollars) = search needs
 word-runs-on (event (opening row)) = search needs
-word-runs-on (event (newStep seat market shares discount stamp)) = search needs
+word-runs-on (event (new-step seat market shares discount stamp)) = search needs
 word-runs-on (event (raise seat shares step discount stamp)) = search needs
 word-runs-on (event close) = search needs
 word-runs-on (event changeover) = search needs
 
 -- what is shown of a record stays on its line
-pub no-newline : (r : Record) → Fits r → OneLine (shownRecord r)
-no-newline r h = all-append (λ b. b ≡ 10 → ⊥) (firstWord r) (listed (numbersOf r)) (word-runs-on r) (listed-runs-on (limitsOf r) (numbersOf r) (numbers-room r h))
+pub no-newline : (r : Record) → Fits r → OneLine (shown-record r)
+no-newline r h = all-append (λ b. b ≡ 10 → ⊥) (first-word r) (listed (numbers-of r)) (word-runs-on r) (listed-runs-on (limits-of r) (numbers-of r) (numbers-room r h))
 
 -- and something is shown of every record
-pub not-empty : (r : Record) → 0 < length (shownRecord r)
+pub not-empty : (r : Record) → 0 < length (shown-record r)
 not-empty (deposit dollars) = omega arith
 not-empty (event (opening row)) = omega arith
-not-empty (event (newStep seat market shares discount stamp)) = omega arith
+not-empty (event (new-step seat market shares discount stamp)) = omega arith
 not-empty (event (raise seat shares step discount stamp)) = omega arith
 not-empty (event close) = omega arith
 not-empty (event changeover) = omega arith
 
 -- all of it at once
-pub written : (r : Record) → Fits r → Written (shownRecord r) r
+pub written : (r : Record) → Fits r → Written (shown-record r) r
 written r h = record { text = refl; stays = no-newline r h; back = line-back r h }

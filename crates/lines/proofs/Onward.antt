@@ -17,7 +17,7 @@ use Rattle.std.proofs.shelf.Lists.{drop-more, drop-all, take-more-set, take-all
 use Rattle.lines.specs.declared.fault.LineFault.{LineFault}
 use Rattle.lines.specs.declared.fault.LineFault.the-variants.{NotANumber, TooLarge, Surplus}
 use Rattle.lines.specs.Words.{skip, word, rest}
-use Rattle.lines.specs.Fields.{numberIn, before, ended, fields, Under}
+use Rattle.lines.specs.Fields.{number-in, before, ended, fields, Under}
 
 -- the numbers that were read, before those to come
 abbrev pub after : List ℕ → Result (List ℕ) LineFault → Result (List ℕ) LineFault
@@ -38,11 +38,11 @@ word-over xs (b ∷ bs) h = refl
 
 module _ (limits : List ℕ) (i : ℕ) (text : List ℕ) where
   -- one field more
-  pub field-more : (ns : List ℕ) (v : ℕ) → i < length limits → i < length ns → Ok v ≡ numberIn (getD limits i 0) (i + 1) (word text) → after (take (i + 1) (set ns i v)) (fields (drop (i + 1) limits) (i + 1 + 1) (rest text)) ≡ after (take i ns) (fields (drop i limits) (i + 1) text)
+  pub field-more : (ns : List ℕ) (v : ℕ) → i < length limits → i < length ns → Ok v ≡ number-in (getD limits i 0) (i + 1) (word text) → after (take (i + 1) (set ns i v)) (fields (drop (i + 1) limits) (i + 1 + 1) (rest text)) ≡ after (take i ns) (fields (drop i limits) (i + 1) text)
   field-more ns v h k e = rw (drop-more limits i 0 h, ← e, take-more-set ns i v k, add-one (i + 1)) (after-one-more (take i ns) v (fields (drop (i + 1) limits) (suc (i + 1)) (rest text)))
 
   -- a field that is refused
-  pub field-refused : (xs : List ℕ) (f : LineFault) → i < length limits → Err f ≡ numberIn (getD limits i 0) (i + 1) (word text) → Err f ≡ after xs (fields (drop i limits) (i + 1) text)
+  pub field-refused : (xs : List ℕ) (f : LineFault) → i < length limits → Err f ≡ number-in (getD limits i 0) (i + 1) (word text) → Err f ≡ after xs (fields (drop i limits) (i + 1) text)
   field-refused xs f h e = rw (drop-more limits i 0 h, ← e)
 
   -- no field more, and no word
@@ -54,7 +54,7 @@ module _ (limits : List ℕ) (i : ℕ) (text : List ℕ) where
   fields-surplus xs h e = rw (drop-all i limits h) (word-over xs (skip text) e)
 
 -- a number that is held in its field is not over the field's limit
-number-under : (most n : ℕ) (w : List ℕ) → made (numberIn most n w) (λ v. v ≤ most)
+number-under : (most n : ℕ) (w : List ℕ) → made (number-in most n w) (λ v. v ≤ most)
 number-under most n [] = tt
 number-under most n (b ∷ bs) = by (allDigits (b ∷ bs)) (leb (value 10 (b ∷ bs)) most) refl
   where
@@ -79,4 +79,4 @@ fields-under [] n text = none (skip text)
     none : (left : List ℕ) → made (ended left) (Under [])
     none [] = λ k. omega arith
     none (b ∷ bs) = tt
-fields-under (most ∷ limits) n text = under-more most limits (numberIn most n (word text)) (fields limits (suc n) (rest text)) (number-under most n (word text)) (fields-under limits (suc n) (rest text))
+fields-under (most ∷ limits) n text = under-more most limits (number-in most n (word text)) (fields limits (suc n) (rest text)) (number-under most n (word text)) (fields-under limits (suc n) (rest text))

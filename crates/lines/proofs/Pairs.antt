@@ -10,7 +10,7 @@ use Rattle.std.specs.Iters.{counting}
 use Rattle.std.specs.Written.{decimal}
 use Rattle.std.proofs.shelf.Counted.{fill-by-all}
 use Rattle.records.specs.Bytes.{be}
-use Rattle.lines.specs.Row.{rowOf, increments}
+use Rattle.lines.specs.Row.{row-of, increments}
 use Rattle.lines.specs.Shown.{listed}
 
 twice-more : (i : ℕ) → 2 * (i + 1) ≡ 2 * i + 1 + 1
@@ -28,7 +28,7 @@ pub increments-whole : (row steps : List ℕ) (i : ℕ) → length row ≤ 2 * i
 increments-whole row steps i h k = rw (drop-all (2 * i) row h, take-all i steps k, append-nil steps)
 
 -- one increment more is kept in its two bytes
-pub bytes-more : (steps row : List ℕ) (i high low : ℕ) → i < length steps → 2 * i + 1 < length row → high ≡ getD steps i 0 / 256 % 256 → low ≡ getD steps i 0 % 256 → take (2 * (i + 1)) (set (set row (2 * i) high) (2 * i + 1) low) ++ rowOf (drop (i + 1) steps) ≡ take (2 * i) row ++ rowOf (drop i steps)
+pub bytes-more : (steps row : List ℕ) (i high low : ℕ) → i < length steps → 2 * i + 1 < length row → high ≡ getD steps i 0 / 256 % 256 → low ≡ getD steps i 0 % 256 → take (2 * (i + 1)) (set (set row (2 * i) high) (2 * i + 1) low) ++ row-of (drop (i + 1) steps) ≡ take (2 * i) row ++ row-of (drop i steps)
 bytes-more steps row i high low h k eh el =
     let upper : getD steps i 0 / 256 ^ 1 % 256 ≡ high = omega arith in
     let lower : getD steps i 0 / 256 ^ 0 % 256 ≡ low = omega arith in
@@ -37,7 +37,7 @@ bytes-more steps row i high low h k eh el =
     (simp append-assoc)
 
 -- every increment is kept
-pub row-whole : (steps row : List ℕ) (i : ℕ) → length steps ≤ i → length row ≤ 2 * i → row ≡ take (2 * i) row ++ rowOf (drop i steps)
+pub row-whole : (steps row : List ℕ) (i : ℕ) → length steps ≤ i → length row ≤ 2 * i → row ≡ take (2 * i) row ++ row-of (drop i steps)
 row-whole steps row i h k = rw (drop-all i steps h, take-all (2 * i) row k, append-nil row)
 
 -- seven increments, written one by one: a format joins twelve pieces, and then the other two

@@ -6,9 +6,9 @@ use Rattle.std.specs.Written.{decimal}
 use Rattle.lines.specs.declared.fault.LineFault.{LineFault}
 use Rattle.lines.specs.declared.fault.LineFault.the-variants.{UnknownWord, Missing, NotANumber, TooLarge, Surplus}
 
-abbrev pub shownFault : LineFault → List ℕ
-shownFault UnknownWord = codes "the first word is not known"
-shownFault (Missing field) = codes "field " ++ (decimal field ++ codes " is missing")
-shownFault (NotANumber field) = codes "field " ++ (decimal field ++ codes " is not a number")
-shownFault (TooLarge field most) = codes "field " ++ (decimal field ++ (codes " is larger than " ++ decimal most))
-shownFault Surplus = codes "a word is left over behind the last field"
+abbrev pub shown-fault : LineFault → List ℕ
+shown-fault UnknownWord = codes "the first word is not known"
+shown-fault (Missing field) = codes "field " ++ (decimal field ++ codes " is missing")
+shown-fault (NotANumber field) = codes "field " ++ (decimal field ++ codes " is not a number")
+shown-fault (TooLarge field most) = codes "field " ++ (decimal field ++ (codes " is larger than " ++ decimal most))
+shown-fault Surplus = codes "a word is left over behind the last field"

@@ -13,9 +13,9 @@ use Rattle.lines.specs.declared.fault.LineFault.the-variants.{Missing, NotANum
 use Rattle.lines.specs.Words.{skip, word, rest}
 
 -- the number in field n, which a word writes in digits, at most as large as the field holds
-abbrev pub numberIn : (most n : ℕ) → List ℕ → Result ℕ LineFault
-numberIn most n [] = Err (Missing n)
-numberIn most n (b ∷ bs) =
+abbrev pub number-in : (most n : ℕ) → List ℕ → Result ℕ LineFault
+number-in most n [] = Err (Missing n)
+number-in most n (b ∷ bs) =
     cond (allDigits (b ∷ bs)) (cond (leb (value 10 (b ∷ bs)) most) (Ok (value 10 (b ∷ bs))) (Err (TooLarge n most))) (Err (NotANumber n))
 
 -- a number before others, where none is refused: the first refusal counts
@@ -32,7 +32,7 @@ ended (b ∷ bs) = Err Surplus
 -- the numbers of a text from field n on: one for each limit, and no word more
 abbrev pub fields : (limits : List ℕ) (n : ℕ) (text : List ℕ) → Result (List ℕ) LineFault
 fields [] n text = ended (skip text)
-fields (most ∷ limits) n text = before (numberIn most n (word text)) (fields limits (suc n) (rest text))
+fields (most ∷ limits) n text = before (number-in most n (word text)) (fields limits (suc n) (rest text))
 
 -- no number is over its limit
 abbrev pub Under : (limits numbers : List ℕ) → Type 0

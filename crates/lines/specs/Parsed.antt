@@ -10,11 +10,11 @@ use Rattle.std.specs.declared.option.Option.the-variants.{Some, None}
 use Rattle.std.specs.declared.result.Result.{Result}
 use Rattle.std.specs.declared.result.Result.the-variants.{Ok, Err}
 use Rattle.std.specs.shelf.Text.{sameBytes}
-use Rattle.records.specs.Event.{opening, newStep, raise, close, changeover}
+use Rattle.records.specs.Event.{opening, new-step, raise, close, changeover}
 use Rattle.lines.specs.declared.fault.LineFault.{LineFault}
 use Rattle.lines.specs.declared.fault.LineFault.the-variants.{UnknownWord}
 use Rattle.lines.specs.Record.{Record, deposit, event}
-use Rattle.lines.specs.Row.{rowOf}
+use Rattle.lines.specs.Row.{row-of}
 use Rattle.lines.specs.Words.{word, rest}
 use Rattle.lines.specs.Fields.{fields}
 
@@ -23,33 +23,33 @@ abbrev pub most : ℕ → ℕ
 most bits = 2 ^ bits - 1
 
 -- the most that each field of a line may be, by the line's kind
-abbrev pub depositLimits : List ℕ
-depositLimits = most 32 ∷ []
+abbrev pub deposit-limits : List ℕ
+deposit-limits = most 32 ∷ []
 
-abbrev pub openLimits : List ℕ
-openLimits = replicate 7 (most 16)
+abbrev pub open-limits : List ℕ
+open-limits = replicate 7 (most 16)
 
-abbrev pub enterLimits : List ℕ
-enterLimits = most 8 ∷ most 8 ∷ most 8 ∷ most 16 ∷ most 64 ∷ []
+abbrev pub enter-limits : List ℕ
+enter-limits = most 8 ∷ most 8 ∷ most 8 ∷ most 16 ∷ most 64 ∷ []
 
-abbrev pub raiseLimits : List ℕ
-raiseLimits = most 8 ∷ most 16 ∷ most 8 ∷ most 16 ∷ most 64 ∷ []
+abbrev pub raise-limits : List ℕ
+raise-limits = most 8 ∷ most 16 ∷ most 8 ∷ most 16 ∷ most 64 ∷ []
 
 -- what the numbers in the fields say: dollars
-abbrev pub depositOf : List ℕ → Record
-depositOf ns = deposit (getD ns 0 0)
+abbrev pub deposit-of : List ℕ → Record
+deposit-of ns = deposit (getD ns 0 0)
 
 -- the increments of a row
-abbrev pub openOf : List ℕ → Record
-openOf ns = event (opening (rowOf ns))
+abbrev pub open-of : List ℕ → Record
+open-of ns = event (opening (row-of ns))
 
 -- seat, market, shares, discount and stamp
-abbrev pub enterOf : List ℕ → Record
-enterOf ns = event (newStep (getD ns 0 0) (getD ns 1 0) (getD ns 2 0) (getD ns 3 0) (getD ns 4 0))
+abbrev pub enter-of : List ℕ → Record
+enter-of ns = event (new-step (getD ns 0 0) (getD ns 1 0) (getD ns 2 0) (getD ns 3 0) (getD ns 4 0))
 
 -- seat, step, shares, discount and stamp
-abbrev pub raiseOf : List ℕ → Record
-raiseOf ns = event (raise (getD ns 0 0) (getD ns 2 0) (getD ns 1 0) (getD ns 3 0) (getD ns 4 0))
+abbrev pub raise-of : List ℕ → Record
+raise-of ns = event (raise (getD ns 0 0) (getD ns 2 0) (getD ns 1 0) (getD ns 3 0) (getD ns 4 0))
 
 -- what a line says whose fields are these, unless one is refused
 abbrev pub filled : (List ℕ → Record) → Result (List ℕ) LineFault → Result Record LineFault
@@ -59,10 +59,10 @@ filled make (Err f) = Err f
 -- what a line says, by its first word
 abbrev pub said : (first text : List ℕ) → Result Record LineFault
 said first text =
-    cond (sameBytes first (codes "deposit")) (filled depositOf (fields depositLimits 1 text))
-    (cond (sameBytes first (codes "open")) (filled openOf (fields openLimits 1 text))
-    (cond (sameBytes first (codes "enter")) (filled enterOf (fields enterLimits 1 text))
-    (cond (sameBytes first (codes "raise")) (filled raiseOf (fields raiseLimits 1 text))
+    cond (sameBytes first (codes "deposit")) (filled deposit-of (fields deposit-limits 1 text))
+    (cond (sameBytes first (codes "open")) (filled open-of (fields open-limits 1 text))
+    (cond (sameBytes first (codes "enter")) (filled enter-of (fields enter-limits 1 text))
+    (cond (sameBytes first (codes "raise")) (filled raise-of (fields raise-limits 1 text))
     (cond (sameBytes first (codes "close")) (filled (λ _. event close) (fields [] 1 text))
     (cond (sameBytes first (codes "changeover")) (filled (λ _. event changeover) (fields [] 1 text))
     (Err UnknownWord))))))

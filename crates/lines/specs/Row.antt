@@ -1,12 +1,12 @@
 -- An opening's row: increments of two bytes each, the higher byte first.
 use mathlib.Core.List.{List, [], _∷_, _++_}
 use Prim.Native.Nat.{ℕ}
-use Rattle.records.specs.Bytes.{be, bytesOf}
+use Rattle.records.specs.Bytes.{be, bytes-of}
 
 -- the row that keeps these increments
-abbrev pub rowOf : List ℕ → List ℕ
-rowOf [] = []
-rowOf (n ∷ ns) = bytesOf 2 n ++ rowOf ns
+abbrev pub row-of : List ℕ → List ℕ
+row-of [] = []
+row-of (n ∷ ns) = bytes-of 2 n ++ row-of ns
 
 -- the increments that a row keeps
 abbrev pub increments : List ℕ → List ℕ

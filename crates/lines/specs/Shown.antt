@@ -7,28 +7,28 @@ use Rattle.std.specs.declared.option.Option.the-variants.{Some}
 use Rattle.std.specs.declared.result.Result.the-variants.{Ok}
 use Rattle.std.specs.Written.{decimal}
 use Rattle.std.specs.shelf.Lists.{All}
-use Rattle.records.specs.Event.{opening, newStep, raise, close, changeover}
+use Rattle.records.specs.Event.{opening, new-step, raise, close, changeover}
 use Rattle.lines.specs.Record.{Record, deposit, event}
 use Rattle.lines.specs.Row.{increments}
 use Rattle.lines.specs.Parsed.{parsed}
 
 -- the word that a line begins with
-abbrev pub firstWord : Record → List ℕ
-firstWord (deposit dollars) = codes "deposit"
-firstWord (event (opening row)) = codes "open"
-firstWord (event (newStep seat market shares discount stamp)) = codes "enter"
-firstWord (event (raise seat shares step discount stamp)) = codes "raise"
-firstWord (event close) = codes "close"
-firstWord (event changeover) = codes "changeover"
+abbrev pub first-word : Record → List ℕ
+first-word (deposit dollars) = codes "deposit"
+first-word (event (opening row)) = codes "open"
+first-word (event (new-step seat market shares discount stamp)) = codes "enter"
+first-word (event (raise seat shares step discount stamp)) = codes "raise"
+first-word (event close) = codes "close"
+first-word (event changeover) = codes "changeover"
 
 -- the numbers that follow it
-abbrev pub numbersOf : Record → List ℕ
-numbersOf (deposit dollars) = dollars ∷ []
-numbersOf (event (opening row)) = increments row
-numbersOf (event (newStep seat market shares discount stamp)) = seat ∷ market ∷ shares ∷ discount ∷ stamp ∷ []
-numbersOf (event (raise seat shares step discount stamp)) = seat ∷ step ∷ shares ∷ discount ∷ stamp ∷ []
-numbersOf (event close) = []
-numbersOf (event changeover) = []
+abbrev pub numbers-of : Record → List ℕ
+numbers-of (deposit dollars) = dollars ∷ []
+numbers-of (event (opening row)) = increments row
+numbers-of (event (new-step seat market shares discount stamp)) = seat ∷ market ∷ shares ∷ discount ∷ stamp ∷ []
+numbers-of (event (raise seat shares step discount stamp)) = seat ∷ step ∷ shares ∷ discount ∷ stamp ∷ []
+numbers-of (event close) = []
+numbers-of (event changeover) = []
 
 -- numbers, each behind a space
 abbrev pub listed : List ℕ → List ℕ
@@ -36,8 +36,8 @@ listed [] = []
 listed (n ∷ ns) = 32 ∷ (decimal n ++ listed ns)
 
 -- the text of a line
-abbrev pub shownRecord : Record → List ℕ
-shownRecord r = firstWord r ++ listed (numbersOf r)
+abbrev pub shown-record : Record → List ℕ
+shown-record r = first-word r ++ listed (numbers-of r)
 
 -- a text that stays on one line: no byte of it is a newline
 abbrev pub OneLine : List ℕ → Type 0
@@ -45,6 +45,6 @@ OneLine bs = All (λ b. b ≡ 10 → ⊥) bs
 
 -- a record's own text, which stays on its line and is parsed back to what it says
 pub record Written (bs : List ℕ) (r : Record) : Type 0 where
-  pub text : bs ≡ shownRecord r
+  pub text : bs ≡ shown-record r
   pub stays : OneLine bs
   pub back : parsed bs ≡ Ok (Some r)

@@ -1,6 +1,6 @@
 //! Why a line can't be read.
 ghost use Rattle.std.specs.declared.option.Option.the-variants.{Some};
-ghost use Rattle.lines.specs.Fault.{shownFault};
+ghost use Rattle.lines.specs.Fault.{shown-fault};
 use std::fmt;
 
 /// A refusal of one line. Fields are counted from 1, the word in front not among them.
@@ -19,7 +19,7 @@ pub enum LineFault {
 }
 
 pub impl fmt::Display for LineFault as LineFaultDisplay {
-    ghost shown = { λ fault. Some (shownFault fault) };
+    ghost shown = { λ fault. Some (shown-fault fault) };
 
     fn fmt<W: fmt::Write>(&self, f: &mut fmt::Formatter<W>) -> fmt::Result {
         match self {

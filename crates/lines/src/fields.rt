@@ -3,7 +3,7 @@ ghost use mathlib.Core.Path.{_≡_};
 ghost use Prim.Native.Nat.{_<_};
 ghost use Rattle.std.specs.Vec.{made};
 ghost use Rattle.std.specs.shelf.Text.{allDigits};
-ghost use Rattle.lines.specs.Fields.{numberIn, fields, Under};
+ghost use Rattle.lines.specs.Fields.{number-in, fields, Under};
 use crate::fault::LineFault;
 use crate::words::skip_blanks;
 use crate::words::split_word;
@@ -23,7 +23,7 @@ fn all_digits(word: &[u8]) -> bool
 
 // The number that a word writes in this field, which holds `most` at most.
 fn number(word: &[u8], field: u8, most: u64) -> Result<u64, LineFault>
-    ensures { λ r. ⌜ r ≡ numberIn most field (now (word .entry)) ⌝ }
+    ensures { λ r. ⌜ r ≡ number-in most field (now (word .entry)) ⌝ }
 {
     if word.is_empty() {
         return Err(LineFault::Missing(field));

@@ -4,9 +4,9 @@ ghost use mathlib.Core.Bool.{true};
 ghost use Rattle.std.specs.Options.{mapped};
 ghost use Rattle.std.specs.declared.option.Option.the-variants.{Some};
 ghost use Rattle.std.specs.Slices.{found};
-ghost use Rattle.records.specs.Event.{valueOf, rowFits};
-ghost use Rattle.lines.specs.Record.{recordOf, eventIn, lineOf, keptAs};
-ghost use Rattle.lines.specs.Shown.{shownRecord};
+ghost use Rattle.records.specs.Event.{value-of, row-fits};
+ghost use Rattle.lines.specs.Record.{record-of, event-in, line-of, kept-as};
+ghost use Rattle.lines.specs.Shown.{shown-record};
 use crate::row::steps_of;
 use faults::RecordFault;
 use records::Event;
@@ -42,8 +42,8 @@ pub enum Line {
 impl Line {
     /// The event that the line stands for: every line but a deposit does.
     pub fn event(&self) -> Option<Event<'_>>
-        ensures value { λ r. ⌜ mapped valueOf r ≡ eventIn (recordOf (now (self .entry))) ⌝ }
-        ensures row { λ r. ⌜ found r (λ e. rowFits (valueOf e) ≡ true) ⌝ }
+        ensures value { λ r. ⌜ mapped value-of r ≡ event-in (record-of (now (self .entry))) ⌝ }
+        ensures row { λ r. ⌜ found r (λ e. row-fits (value-of e) ≡ true) ⌝ }
     {
         match self {
             Line::Deposit(_) => None,
@@ -81,7 +81,7 @@ impl Line {
 
     /// The line that says this event, unless it is an opening whose row isn't 14 bytes.
     pub fn of_event(event: Event) -> Result<Line, RecordFault>
-        ensures { λ r. ⌜ keptAs r ≡ lineOf (valueOf (event .entry)) ⌝ }
+        ensures { λ r. ⌜ kept-as r ≡ line-of (value-of (event .entry)) ⌝ }
     {
         match event {
             Event::Open(row) => match <[u8; 14]>::try_from(row) {
@@ -121,7 +121,7 @@ impl Line {
 }
 
 pub impl fmt::Display for Line as LineDisplay {
-    ghost shown = { λ line. Some (shownRecord (recordOf line)) };
+    ghost shown = { λ line. Some (shown-record (record-of line)) };
 
     fn fmt<W: fmt::Write>(&self, f: &mut fmt::Formatter<W>) -> fmt::Result {
         match self {

@@ -1,9 +1,9 @@
 //! What one line of a session's text says.
 ghost use mathlib.Core.Path.{_≡_};
 ghost use mathlib.Core.List.{[]};
-ghost use Rattle.lines.specs.Record.{recordOf, keptAs, seen};
+ghost use Rattle.lines.specs.Record.{record-of, kept-as, seen};
 ghost use Rattle.lines.specs.Fields.{fields};
-ghost use Rattle.lines.specs.Parsed.{parsed, said, silent, filled, depositLimits, openLimits, enterLimits, raiseLimits, depositOf, openOf, enterOf, raiseOf};
+ghost use Rattle.lines.specs.Parsed.{parsed, said, silent, filled, deposit-limits, open-limits, enter-limits, raise-limits, deposit-of, open-of, enter-of, raise-of};
 use crate::fault::LineFault;
 use crate::fields::read_fields;
 use crate::line::Line;
@@ -22,7 +22,7 @@ const MOST_64: u64 = u64::MAX;
 
 // DOLLARS
 fn deposit(text: &[u8]) -> Result<Line, LineFault>
-    ensures { λ r. ⌜ keptAs r ≡ filled depositOf (fields depositLimits 1 (now (text .entry))) ⌝ }
+    ensures { λ r. ⌜ kept-as r ≡ filled deposit-of (fields deposit-limits 1 (now (text .entry))) ⌝ }
 {
     let [dollars] = read_fields(text, [MOST_32])?;
     Ok(Line::Deposit(dollars as u32))
@@ -30,7 +30,7 @@ fn deposit(text: &[u8]) -> Result<Line, LineFault>
 
 // SEAT MARKET SHARES DISCOUNT STAMP
 fn enter(text: &[u8]) -> Result<Line, LineFault>
-    ensures { λ r. ⌜ keptAs r ≡ filled enterOf (fields enterLimits 1 (now (text .entry))) ⌝ }
+    ensures { λ r. ⌜ kept-as r ≡ filled enter-of (fields enter-limits 1 (now (text .entry))) ⌝ }
 {
     let [seat, market, shares, discount, stamp] = read_fields(
         text,
@@ -47,7 +47,7 @@ fn enter(text: &[u8]) -> Result<Line, LineFault>
 
 // seven increments
 fn open(text: &[u8]) -> Result<Line, LineFault>
-    ensures { λ r. ⌜ keptAs r ≡ filled openOf (fields openLimits 1 (now (text .entry))) ⌝ }
+    ensures { λ r. ⌜ kept-as r ≡ filled open-of (fields open-limits 1 (now (text .entry))) ⌝ }
 {
     let steps = read_fields(text, [MOST_16; 7])?;
     Ok(Line::Open(row_of(steps)))
@@ -55,7 +55,7 @@ fn open(text: &[u8]) -> Result<Line, LineFault>
 
 // SEAT STEP SHARES DISCOUNT STAMP
 fn raise(text: &[u8]) -> Result<Line, LineFault>
-    ensures { λ r. ⌜ keptAs r ≡ filled raiseOf (fields raiseLimits 1 (now (text .entry))) ⌝ }
+    ensures { λ r. ⌜ kept-as r ≡ filled raise-of (fields raise-limits 1 (now (text .entry))) ⌝ }
 {
     let [seat, step, shares, discount, stamp] = read_fields(
         text,
@@ -72,7 +72,7 @@ fn raise(text: &[u8]) -> Result<Line, LineFault>
 
 // A line that is one word alone.
 fn bare(line: Line, text: &[u8]) -> Result<Line, LineFault>
-    ensures { λ r. ⌜ keptAs r ≡ filled (λ _. recordOf line) (fields [] 1 (now (text .entry))) ⌝ }
+    ensures { λ r. ⌜ kept-as r ≡ filled (λ _. record-of line) (fields [] 1 (now (text .entry))) ⌝ }
 {
     let [] = read_fields(text, [])?;
     Ok(line)
@@ -80,7 +80,7 @@ fn bare(line: Line, text: &[u8]) -> Result<Line, LineFault>
 
 // What a line says that begins with this word and goes on with this text.
 fn said_by(word: &[u8], text: &[u8]) -> Result<Line, LineFault>
-    ensures { λ r. ⌜ keptAs r ≡ said (now (word .entry)) (now (text .entry)) ⌝ }
+    ensures { λ r. ⌜ kept-as r ≡ said (now (word .entry)) (now (text .entry)) ⌝ }
 {
     if is_word(word, b"deposit") {
         deposit(text)

@@ -1,13 +1,13 @@
 //! An opening's row: seven increments of two bytes each.
 ghost use mathlib.Core.Path.{_≡_};
 ghost use Rattle.lines.specs.Fields.{Under};
-ghost use Rattle.lines.specs.Parsed.{openLimits};
-ghost use Rattle.lines.specs.Row.{rowOf, increments};
+ghost use Rattle.lines.specs.Parsed.{open-limits};
+ghost use Rattle.lines.specs.Row.{row-of, increments};
 
 /// The row that keeps these increments.
 pub(crate) fn row_of(steps: [u64; 7]) -> [u8; 14]
-    requires { ⌜ Under openLimits steps ⌝ }
-    ensures { λ r. ⌜ r ≡ rowOf steps ⌝ }
+    requires { ⌜ Under open-limits steps ⌝ }
+    ensures { λ r. ⌜ r ≡ row-of steps ⌝ }
 {
     let mut row = [0; 14];
     for i in 0..7 {

@@ -2,8 +2,8 @@
 ghost use Rattle.std.specs.Of.String.{string-bytes};
 ghost use Rattle.std.specs.Vec.{made};
 ghost use Rattle.records.specs.Event.{opening};
-ghost use Rattle.lines.specs.Record.{event, recordOf, Fits};
-ghost use Rattle.lines.specs.Shown.{shownRecord, Written};
+ghost use Rattle.lines.specs.Record.{event, record-of, Fits};
+ghost use Rattle.lines.specs.Shown.{shown-record, Written};
 use crate::line::Line;
 use crate::line::LineDisplay;
 use std::alloc::AllocError;
@@ -18,7 +18,7 @@ fn row_fits(row: &[u8; 14])
 
 // Does nothing but read each figure, likewise.
 fn figures_fit(line: &Line)
-    ensures { λ _. ⌜ Fits (recordOf (now (line .entry))) ⌝ }
+    ensures { λ _. ⌜ Fits (record-of (now (line .entry))) ⌝ }
 {
     match line {
         Line::Deposit(dollars) => drop(*dollars),
@@ -55,14 +55,14 @@ fn figures_fit(line: &Line)
 
 // Does nothing: it holds of every line that the text shown of it is parsed back.
 fn shown_back(line: &Line)
-    ensures { λ _. ⌜ Written (shownRecord (recordOf (now (line .entry)))) (recordOf (now (line .entry))) ⌝ }
+    ensures { λ _. ⌜ Written (shown-record (record-of (now (line .entry)))) (record-of (now (line .entry))) ⌝ }
 {
     figures_fit(line);
 }
 
 /// The text of a line, without a newline. Parsed, it gives the line again.
 pub fn line_text(heap: Global, line: &Line) -> Result<String, AllocError>
-    ensures { λ r. ⌜ made r (λ s. Written (string-bytes s) (recordOf (now (line .entry)))) ⌝ }
+    ensures { λ r. ⌜ made r (λ s. Written (string-bytes s) (record-of (now (line .entry)))) ⌝ }
 {
     shown_back(line);
     format!(heap, "{line}")

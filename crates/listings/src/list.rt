@@ -4,10 +4,10 @@ ghost use mathlib.Core.List.{_++_};
 ghost use Rattle.std.specs.Of.String.{string-bytes};
 ghost use Rattle.std.specs.Vec.{made};
 ghost use Rattle.faults.specs.declared.section.Section.the-variants.{Deposits, Events};
-ghost use Rattle.lines.specs.Record.{keptAs};
+ghost use Rattle.lines.specs.Record.{kept-as};
 ghost use Rattle.sessions.specs.Lent.{lent};
-ghost use Rattle.listings.specs.Texts.{endedLine};
-ghost use Rattle.listings.specs.Listed.{sectionName, recordIn, recordLine, lineOr, sectionLines, refusalText, refusalLine, listed};
+ghost use Rattle.listings.specs.Texts.{ended-line};
+ghost use Rattle.listings.specs.Listed.{section-name, record-in, record-line, line-or, section-lines, refusal-text, refusal-line, listed};
 use faults::FileFault;
 use faults::Section;
 use lines::Line;
@@ -18,7 +18,7 @@ use std::alloc::Global;
 
 // What a record of a section is called.
 fn section_name(section: Section) -> &'static str
-    ensures { λ r. ⌜ now r ≡ sectionName section ⌝ }
+    ensures { λ r. ⌜ now r ≡ section-name section ⌝ }
 {
     match section {
         Section::Deposits => "deposit",
@@ -28,7 +28,7 @@ fn section_name(section: Section) -> &'static str
 
 // The record of this number as a line says it.
 fn record_in(reader: &Reader, section: Section, number: usize) -> Result<Line, FileFault>
-    ensures { λ r. ⌜ keptAs r ≡ recordIn section (lent (now (reader .entry))) number ⌝ }
+    ensures { λ r. ⌜ kept-as r ≡ record-in section (lent (now (reader .entry))) number ⌝ }
 {
     match section {
         Section::Deposits => Ok(Line::Deposit(reader.deposit(number)?)),
@@ -46,7 +46,7 @@ fn line_or_remark(
     number: usize,
     record: Result<Line, FileFault>,
 ) -> Result<String, AllocError>
-    ensures { λ r. ⌜ made r (λ s. string-bytes s ≡ lineOr section number (keptAs «record»)) ⌝ }
+    ensures { λ r. ⌜ made r (λ s. string-bytes s ≡ line-or section number (kept-as «record»)) ⌝ }
 {
     match record {
         Ok(line) => format!(heap, "{line}"),
@@ -65,14 +65,14 @@ fn record_line(
     section: Section,
     number: usize,
 ) -> Result<String, AllocError>
-    ensures { λ r. ⌜ made r (λ s. string-bytes s ≡ recordLine section (lent (now (reader .entry))) number) ⌝ }
+    ensures { λ r. ⌜ made r (λ s. string-bytes s ≡ record-line section (lent (now (reader .entry))) number) ⌝ }
 {
     line_or_remark(heap, section, number, record_in(reader, section, number))
 }
 
 // Adds a line with its newline.
 fn push_line(text: &mut String, line: &str) -> Result<(), AllocError>
-    ensures { λ r. ⌜ made r (λ _. string-bytes (now (text .exit)) ≡ string-bytes (now (text .entry)) ++ endedLine (now (line .entry))) ⌝ }
+    ensures { λ r. ⌜ made r (λ _. string-bytes (now (text .exit)) ≡ string-bytes (now (text .entry)) ++ ended-line (now (line .entry))) ⌝ }
 {
     text.push_str(line)?;
     text.push_str("\n")?;
@@ -81,7 +81,7 @@ fn push_line(text: &mut String, line: &str) -> Result<(), AllocError>
 
 // The lines of a section, each with its newline.
 fn section_lines(heap: Global, reader: &Reader, section: Section) -> Result<String, AllocError>
-    ensures { λ r. ⌜ made r (λ s. string-bytes s ≡ sectionLines section (lent (now (reader .entry)))) ⌝ }
+    ensures { λ r. ⌜ made r (λ s. string-bytes s ≡ section-lines section (lent (now (reader .entry)))) ⌝ }
 {
     let mut text = String::new(heap);
     for i in 0..reader.count(section) {
@@ -93,7 +93,7 @@ fn section_lines(heap: Global, reader: &Reader, section: Section) -> Result<Stri
 
 // The lines of both sections.
 fn all_lines(heap: Global, reader: &Reader) -> Result<String, AllocError>
-    ensures { λ r. ⌜ made r (λ s. string-bytes s ≡ sectionLines Deposits (lent (now (reader .entry))) ++ sectionLines Events (lent (now (reader .entry)))) ⌝ }
+    ensures { λ r. ⌜ made r (λ s. string-bytes s ≡ section-lines Deposits (lent (now (reader .entry))) ++ section-lines Events (lent (now (reader .entry)))) ⌝ }
 {
     let mut text = section_lines(heap, reader, Section::Deposits)?;
     text.push_str(section_lines(heap, reader, Section::Events)?.as_str())?;
@@ -102,14 +102,14 @@ fn all_lines(heap: Global, reader: &Reader) -> Result<String, AllocError>
 
 // The refusal of a file, by its number and its place.
 fn refusal_text(heap: Global, number: u8, place: usize) -> Result<String, AllocError>
-    ensures { λ r. ⌜ made r (λ s. string-bytes s ≡ refusalText number place) ⌝ }
+    ensures { λ r. ⌜ made r (λ s. string-bytes s ≡ refusal-text number place) ⌝ }
 {
     format!(heap, "F {number} {place}")
 }
 
 // The text of a file that can't be read: that line alone.
 fn refused(heap: Global, fault: FileFault) -> Result<String, AllocError>
-    ensures { λ r. ⌜ made r (λ s. string-bytes s ≡ endedLine (refusalLine fault)) ⌝ }
+    ensures { λ r. ⌜ made r (λ s. string-bytes s ≡ ended-line (refusal-line fault)) ⌝ }
 {
     let mut text = String::new(heap);
     let line = refusal_text(heap, fault.number(), fault.place())?;

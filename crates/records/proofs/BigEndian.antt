@@ -9,7 +9,7 @@ use lib.Arith.{mod-mul}
 use lib.ListN.{length, take, drop, getD}
 use Rattle.std.specs.shelf.Lists.{between}
 use Rattle.std.proofs.shelf.Lists.{getD-take, getD-drop}
-use Rattle.records.specs.Bytes.{be, bytesOf}
+use Rattle.records.specs.Bytes.{be, bytes-of}
 
 power-positive : (k : ℕ) → 0 < 256 ^ k
 power-positive zero = omega arith
@@ -20,17 +20,17 @@ be-behind : (k x : ℕ) (bs : List ℕ) (at : ℕ) → be k (x ∷ bs) (suc at) 
 be-behind zero x bs at = refl
 be-behind (suc k) x bs at = rw (add-one (suc at), add-one at, be-behind k x bs (suc at))
 
-be-bytesOf : (k n : ℕ) → be k (bytesOf k n) 0 ≡ n % 256 ^ k
-be-bytesOf zero n = sym (mod-one n)
-be-bytesOf (suc k) n =
-    rw (be-behind k (n / 256 ^ k % 256) (bytesOf k n) 0, be-bytesOf k n, pow-succ' 256 k) (sym (mod-mul n {m = 256} {c = 256 ^ k} (omega arith) (power-positive k)))
+be-bytes-of : (k n : ℕ) → be k (bytes-of k n) 0 ≡ n % 256 ^ k
+be-bytes-of zero n = sym (mod-one n)
+be-bytes-of (suc k) n =
+    rw (be-behind k (n / 256 ^ k % 256) (bytes-of k n) 0, be-bytes-of k n, pow-succ' 256 k) (sym (mod-mul n {m = 256} {c = 256 ^ k} (omega arith) (power-positive k)))
 
-pub number-back : (k n : ℕ) → n < 256 ^ k → be k (bytesOf k n) 0 ≡ n
-number-back k n h = be-bytesOf k n ∙ mod-eq-of-lt h
+pub number-back : (k n : ℕ) → n < 256 ^ k → be k (bytes-of k n) 0 ≡ n
+number-back k n h = be-bytes-of k n ∙ mod-eq-of-lt h
 
-pub length-bytesOf : (k n : ℕ) → length (bytesOf k n) ≡ k
-length-bytesOf zero n = refl
-length-bytesOf (suc k) n = ap suc (length-bytesOf k n)
+pub length-bytes-of : (k n : ℕ) → length (bytes-of k n) ≡ k
+length-bytes-of zero n = refl
+length-bytes-of (suc k) n = ap suc (length-bytes-of k n)
 
 -- a number is read from its own bytes alone
 pub be-take : (k : ℕ) (bs : List ℕ) (i n : ℕ) → i + k ≤ n → be k (take n bs) i ≡ be k bs i

@@ -1,14 +1,14 @@
 //! The 16 bytes of an event, read and written.
 ghost use mathlib.Core.Path.{_≡_};
 ghost use Rattle.std.specs.declared.result.Result.the-variants.{Ok};
-ghost use Rattle.records.specs.Bytes.{allZero};
-ghost use Rattle.records.specs.Event.{seen, decoded, valueOf, Encoded, opening, newStep, raise};
+ghost use Rattle.records.specs.Bytes.{all-zero};
+ghost use Rattle.records.specs.Event.{seen, decoded, value-of, Encoded, opening, new-step, raise};
 use crate::event::Event;
 use faults::RecordFault;
 
 // Whether every byte is zero.
 fn all_zero(bytes: &[u8]) -> bool
-    ensures { λ r. ⌜ r ≡ allZero (now (bytes .entry)) ⌝ }
+    ensures { λ r. ⌜ r ≡ all-zero (now (bytes .entry)) ⌝ }
 {
     for byte in bytes {
         if *byte != 0 {
@@ -71,7 +71,7 @@ fn encode_opening(row: &[u8]) -> Result<[u8; 16], RecordFault>
 
 // The bytes of a new step.
 fn encode_new_step(seat: u8, market: u8, shares: u8, discount: u16, stamp: u64) -> [u8; 16]
-    ensures { λ r. ⌜ Encoded (Ok r) (newStep seat market shares discount stamp) ⌝ }
+    ensures { λ r. ⌜ Encoded (Ok r) (new-step seat market shares discount stamp) ⌝ }
 {
     let [d0, d1] = discount.to_be_bytes();
     let [t0, t1, t2, t3, t4, t5, t6, t7] = stamp.to_be_bytes();
@@ -124,7 +124,7 @@ fn encode_raise(seat: u8, shares: u8, step: u16, discount: u16, stamp: u64) -> [
 
 /// The 16 bytes that keep this event, unless it is an opening whose row isn't 14 bytes.
 pub fn encode(event: Event) -> Result<[u8; 16], RecordFault>
-    ensures { λ r. ⌜ Encoded r (valueOf (event .entry)) ⌝ }
+    ensures { λ r. ⌜ Encoded r (value-of (event .entry)) ⌝ }
 {
     match event {
         Event::Open(row) => encode_opening(row),

@@ -11,29 +11,29 @@ use Rattle.std.proofs.shelf.Elements.{all-push}
 use Rattle.std.specs.declared.option.Option.{Option}
 use Rattle.std.specs.declared.option.Option.the-variants.{Some, None}
 use Rattle.records.specs.declared.event.Event.{Event}
-use Rattle.records.specs.Event.{EventValue, valueOf, rowFits}
+use Rattle.records.specs.Event.{EventValue, value-of, row-fits}
 use Rattle.lines.specs.declared.line.Line.{Line}
 use Rattle.lines.specs.declared.line.Line.the-variants.{Deposit, Open, NewStep, Raise, Close, Changeover}
-use Rattle.lines.specs.Record.{Record, recordOf, eventIn}
-use Rattle.session_texts.specs.Records.{depositsIn, eventsIn}
+use Rattle.lines.specs.Record.{Record, record-of, event-in}
+use Rattle.session_texts.specs.Records.{deposits-in, events-in}
 
 module _ (ls : List Line) (i : ℕ) (d : Line) (h : i < length ls) where
   -- what is left begins with this line
-  records-left : map recordOf (drop i ls) ≡ recordOf (getD ls i d) ∷ map recordOf (drop (i + 1) ls)
-  records-left = ap (λ xs. map recordOf xs) (drop-more ls i d h)
+  records-left : map record-of (drop i ls) ≡ record-of (getD ls i d) ∷ map record-of (drop (i + 1) ls)
+  records-left = ap (λ xs. map record-of xs) (drop-more ls i d h)
 
-  pub deposit-passed : (done new all : List ℕ) (dollars : ℕ) → getD ls i d ≡ Deposit dollars → new ≡ done ++ (dollars ∷ []) → done ++ depositsIn (map recordOf (drop i ls)) ≡ all → new ++ depositsIn (map recordOf (drop (i + 1) ls)) ≡ all
+  pub deposit-passed : (done new all : List ℕ) (dollars : ℕ) → getD ls i d ≡ Deposit dollars → new ≡ done ++ (dollars ∷ []) → done ++ deposits-in (map record-of (drop i ls)) ≡ all → new ++ deposits-in (map record-of (drop (i + 1) ls)) ≡ all
   deposit-passed done new all dollars e n p =
-      ap (λ xs. xs ++ depositsIn (map recordOf (drop (i + 1) ls))) n
-      ∙ append-assoc done (dollars ∷ []) (depositsIn (map recordOf (drop (i + 1) ls)))
-      ∙ ap (λ x. done ++ depositsIn (recordOf x ∷ map recordOf (drop (i + 1) ls))) (sym e)
-      ∙ sym (ap (λ rs. done ++ depositsIn rs) records-left)
+      ap (λ xs. xs ++ deposits-in (map record-of (drop (i + 1) ls))) n
+      ∙ append-assoc done (dollars ∷ []) (deposits-in (map record-of (drop (i + 1) ls)))
+      ∙ ap (λ x. done ++ deposits-in (record-of x ∷ map record-of (drop (i + 1) ls))) (sym e)
+      ∙ sym (ap (λ rs. done ++ deposits-in rs) records-left)
       ∙ p
 
-  pub other-passed : (done all : List ℕ) → ((dollars : ℕ) → getD ls i d ≡ Deposit dollars → ⊥) → done ++ depositsIn (map recordOf (drop i ls)) ≡ all → done ++ depositsIn (map recordOf (drop (i + 1) ls)) ≡ all
-  other-passed done all ne p = ap (λ ds. done ++ ds) (sym (no-deposit (getD ls i d) ne)) ∙ sym (ap (λ rs. done ++ depositsIn rs) records-left) ∙ p
+  pub other-passed : (done all : List ℕ) → ((dollars : ℕ) → getD ls i d ≡ Deposit dollars → ⊥) → done ++ deposits-in (map record-of (drop i ls)) ≡ all → done ++ deposits-in (map record-of (drop (i + 1) ls)) ≡ all
+  other-passed done all ne p = ap (λ ds. done ++ ds) (sym (no-deposit (getD ls i d) ne)) ∙ sym (ap (λ rs. done ++ deposits-in rs) records-left) ∙ p
     where
-      no-deposit : (x : Line) → ((dollars : ℕ) → x ≡ Deposit dollars → ⊥) → depositsIn (recordOf x ∷ map recordOf (drop (i + 1) ls)) ≡ depositsIn (map recordOf (drop (i + 1) ls))
+      no-deposit : (x : Line) → ((dollars : ℕ) → x ≡ Deposit dollars → ⊥) → deposits-in (record-of x ∷ map record-of (drop (i + 1) ls)) ≡ deposits-in (map record-of (drop (i + 1) ls))
       no-deposit (Deposit dollars) n = absurd (n dollars refl)
       no-deposit (Open row) n = refl
       no-deposit (NewStep a b c e f) n = refl
@@ -41,28 +41,28 @@ module _ (ls : List Line) (i : ℕ) (d : Line) (h : i < length ls) where
       no-deposit Close n = refl
       no-deposit Changeover n = refl
 
-  events-left : eventsIn (map recordOf (drop i ls)) ≡ listOf (eventIn (recordOf (getD ls i d))) ++ eventsIn (map recordOf (drop (i + 1) ls))
-  events-left = ap eventsIn records-left
+  events-left : events-in (map record-of (drop i ls)) ≡ listOf (event-in (record-of (getD ls i d))) ++ events-in (map record-of (drop (i + 1) ls))
+  events-left = ap events-in records-left
 
-  pub event-passed : (done new : List Event) (all : List EventValue) (e : Event) → Some (valueOf e) ≡ eventIn (recordOf (getD ls i d)) → new ≡ done ++ (e ∷ []) → map valueOf done ++ eventsIn (map recordOf (drop i ls)) ≡ all → map valueOf new ++ eventsIn (map recordOf (drop (i + 1) ls)) ≡ all
+  pub event-passed : (done new : List Event) (all : List EventValue) (e : Event) → Some (value-of e) ≡ event-in (record-of (getD ls i d)) → new ≡ done ++ (e ∷ []) → map value-of done ++ events-in (map record-of (drop i ls)) ≡ all → map value-of new ++ events-in (map record-of (drop (i + 1) ls)) ≡ all
   event-passed done new all e q n p =
-      ap (λ xs. xs ++ eventsIn (map recordOf (drop (i + 1) ls))) (ap (λ xs. map valueOf xs) n ∙ map-push valueOf done e)
-      ∙ append-assoc (map valueOf done) (valueOf e ∷ []) (eventsIn (map recordOf (drop (i + 1) ls)))
-      ∙ ap (λ o. map valueOf done ++ (listOf o ++ eventsIn (map recordOf (drop (i + 1) ls)))) q
-      ∙ sym (ap (λ es. map valueOf done ++ es) events-left)
+      ap (λ xs. xs ++ events-in (map record-of (drop (i + 1) ls))) (ap (λ xs. map value-of xs) n ∙ map-push value-of done e)
+      ∙ append-assoc (map value-of done) (value-of e ∷ []) (events-in (map record-of (drop (i + 1) ls)))
+      ∙ ap (λ o. map value-of done ++ (listOf o ++ events-in (map record-of (drop (i + 1) ls)))) q
+      ∙ sym (ap (λ es. map value-of done ++ es) events-left)
       ∙ p
 
-  pub none-passed : (done : List Event) (all : List EventValue) → None ≡ eventIn (recordOf (getD ls i d)) → map valueOf done ++ eventsIn (map recordOf (drop i ls)) ≡ all → map valueOf done ++ eventsIn (map recordOf (drop (i + 1) ls)) ≡ all
+  pub none-passed : (done : List Event) (all : List EventValue) → None ≡ event-in (record-of (getD ls i d)) → map value-of done ++ events-in (map record-of (drop i ls)) ≡ all → map value-of done ++ events-in (map record-of (drop (i + 1) ls)) ≡ all
   none-passed done all q p =
-      ap (λ o. map valueOf done ++ (listOf o ++ eventsIn (map recordOf (drop (i + 1) ls)))) q ∙ sym (ap (λ es. map valueOf done ++ es) events-left) ∙ p
+      ap (λ o. map value-of done ++ (listOf o ++ events-in (map record-of (drop (i + 1) ls)))) q ∙ sym (ap (λ es. map value-of done ++ es) events-left) ∙ p
 
 -- nothing is left
-pub none-left : {Y : Type 0} (F : List Record → List Y) → F [] ≡ [] → (ls : List Line) (i : ℕ) → length ls ≤ i → (done all : List Y) → done ++ F (map recordOf (drop i ls)) ≡ all → done ≡ all
-none-left F nil ls i h done all p = sym (append-nil done) ∙ ap (λ xs. done ++ xs) (sym (ap (λ xs. F (map recordOf xs)) (drop-all i ls h) ∙ nil)) ∙ p
+pub none-left : {Y : Type 0} (F : List Record → List Y) → F [] ≡ [] → (ls : List Line) (i : ℕ) → length ls ≤ i → (done all : List Y) → done ++ F (map record-of (drop i ls)) ≡ all → done ≡ all
+none-left F nil ls i h done all p = sym (append-nil done) ∙ ap (λ xs. done ++ xs) (sym (ap (λ xs. F (map record-of xs)) (drop-all i ls h) ∙ nil)) ∙ p
 
 -- one event more whose row fits
 abbrev pub RowsFit : List Event → Type 0
-RowsFit es = All (λ e. rowFits (valueOf e) ≡ true) es
+RowsFit es = All (λ e. row-fits (value-of e) ≡ true) es
 
-pub rows-pushed : (done new : List Event) (e : Event) → new ≡ done ++ (e ∷ []) → RowsFit done → rowFits (valueOf e) ≡ true → RowsFit new
-rows-pushed done new e n p q = subst RowsFit (sym n) (all-push (λ x. rowFits (valueOf x) ≡ true) done e p q)
+pub rows-pushed : (done new : List Event) (e : Event) → new ≡ done ++ (e ∷ []) → RowsFit done → row-fits (value-of e) ≡ true → RowsFit new
+rows-pushed done new e n p q = subst RowsFit (sym n) (all-push (λ x. row-fits (value-of x) ≡ true) done e p q)

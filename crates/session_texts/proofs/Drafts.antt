@@ -9,34 +9,34 @@ use Rattle.std.proofs.shelf.Ways.{tells}
 use Rattle.std.proofs.shelf.Lists.{map-push}
 use Rattle.std.specs.declared.result.Result.the-variants.{Ok, Err}
 use Rattle.lines.specs.declared.line.Line.{Line}
-use Rattle.lines.specs.Record.{Record, recordOf}
-use Rattle.session_texts.specs.Records.{recordSize, fileSize, isEvent, hasEvent}
+use Rattle.lines.specs.Record.{Record, record-of}
+use Rattle.session_texts.specs.Records.{record-size, file-size, is-event, has-event}
 use Rattle.session_texts.specs.Told.{added}
 
-pub fileSize-push : (rs : List Record) (r : Record) → fileSize (rs ++ (r ∷ [])) ≡ fileSize rs + recordSize r
-fileSize-push [] r = omega arith
-fileSize-push (x ∷ rs) r = let h = fileSize-push rs r in omega arith
+pub file-size-push : (rs : List Record) (r : Record) → file-size (rs ++ (r ∷ [])) ≡ file-size rs + record-size r
+file-size-push [] r = omega arith
+file-size-push (x ∷ rs) r = let h = file-size-push rs r in omega arith
 
-pub hasEvent-append : (rs : List Record) (r : Record) → hasEvent (rs ++ (r ∷ [])) ≡ (hasEvent rs || isEvent r)
-hasEvent-append [] r = grind (arith, tells)
-hasEvent-append (x ∷ rs) r = let h = hasEvent-append rs r in grind (arith, tells)
+pub has-event-append : (rs : List Record) (r : Record) → has-event (rs ++ (r ∷ [])) ≡ (has-event rs || is-event r)
+has-event-append [] r = grind (arith, tells)
+has-event-append (x ∷ rs) r = let h = has-event-append rs r in grind (arith, tells)
 
-hasEvent-push : (rs : List Record) (r : Record) → (not (isEvent r) && hasEvent rs) ≡ false → hasEvent (rs ++ (r ∷ [])) ≡ isEvent r
-hasEvent-push rs r h = let e = hasEvent-append rs r in grind (arith, tells)
+has-event-push : (rs : List Record) (r : Record) → (not (is-event r) && has-event rs) ≡ false → has-event (rs ++ (r ∷ [])) ≡ is-event r
+has-event-push rs r h = let e = has-event-append rs r in grind (arith, tells)
 
 -- the lines of a draft with one line more
 module _ (ls new : List Line) (l : Line) (pushed : new ≡ ls ++ (l ∷ [])) where
-  records-pushed : map recordOf new ≡ map recordOf ls ++ (recordOf l ∷ [])
-  records-pushed = ap (λ xs. map recordOf xs) pushed ∙ map-push recordOf ls l
+  records-pushed : map record-of new ≡ map record-of ls ++ (record-of l ∷ [])
+  records-pushed = ap (λ xs. map record-of xs) pushed ∙ map-push record-of ls l
 
-  pub size-pushed : (size width : ℕ) → size ≡ fileSize (map recordOf ls) → width ≡ recordSize (recordOf l) → size + width ≡ fileSize (map recordOf new)
-  size-pushed size width p q = rw records-pushed (let h = fileSize-push (map recordOf ls) (recordOf l) in omega arith)
+  pub size-pushed : (size width : ℕ) → size ≡ file-size (map record-of ls) → width ≡ record-size (record-of l) → size + width ≡ file-size (map record-of new)
+  size-pushed size width p q = rw records-pushed (let h = file-size-push (map record-of ls) (record-of l) in omega arith)
 
-  pub event-pushed : (is has late : Bool) → is ≡ isEvent (recordOf l) → has ≡ hasEvent (map recordOf ls) → late ≡ (not is && has) → late ≡ false → is ≡ hasEvent (map recordOf new)
-  event-pushed is has late p q r s = rw records-pushed (p ∙ sym (hasEvent-push (map recordOf ls) (recordOf l) (rw (← p, ← q) (sym r ∙ s))))
+  pub event-pushed : (is has late : Bool) → is ≡ is-event (record-of l) → has ≡ has-event (map record-of ls) → late ≡ (not is && has) → late ≡ false → is ≡ has-event (map record-of new)
+  event-pushed is has late p q r s = rw records-pushed (p ∙ sym (has-event-push (map record-of ls) (record-of l) (rw (← p, ← q) (sym r ∙ s))))
 
-  pub records-added : (is has late : Bool) (size width : ℕ) → is ≡ isEvent (recordOf l) → has ≡ hasEvent (map recordOf ls) → late ≡ (not is && has) → late ≡ false → size ≡ fileSize (map recordOf ls) → width ≡ recordSize (recordOf l) → size + width ≤ 65536 → added (map recordOf ls) (recordOf l) ≡ Ok (map recordOf new)
+  pub records-added : (is has late : Bool) (size width : ℕ) → is ≡ is-event (record-of l) → has ≡ has-event (map record-of ls) → late ≡ (not is && has) → late ≡ false → size ≡ file-size (map record-of ls) → width ≡ record-size (record-of l) → size + width ≤ 65536 → added (map record-of ls) (record-of l) ≡ Ok (map record-of new)
   records-added is has late size width p q r s a b fits =
-      let in-time : (not (isEvent (recordOf l)) && hasEvent (map recordOf ls)) ≡ false = rw (← p, ← q) (sym r ∙ s) in
-      let small : leb (fileSize (map recordOf ls) + recordSize (recordOf l)) 65536 ≡ true = grind (arith, tells) in
+      let in-time : (not (is-event (record-of l)) && has-event (map record-of ls)) ≡ false = rw (← p, ← q) (sym r ∙ s) in
+      let small : leb (file-size (map record-of ls) + record-size (record-of l)) 65536 ≡ true = grind (arith, tells) in
       rw (in-time, small, records-pushed)

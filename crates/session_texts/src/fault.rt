@@ -1,6 +1,6 @@
 //! Why no session file is made of a text.
 ghost use Rattle.std.specs.declared.option.Option.the-variants.{Some};
-ghost use Rattle.session_texts.specs.Faults.{shownText, shownMake};
+ghost use Rattle.session_texts.specs.Faults.{shown-text, shown-make};
 use lines::LineFault;
 use lines::LineFaultDebug;
 use lines::LineFaultDisplay;
@@ -18,7 +18,7 @@ pub enum TextFault {
 }
 
 pub impl fmt::Display for TextFault as TextFaultDisplay {
-    ghost shown = { λ fault. Some (shownText fault) };
+    ghost shown = { λ fault. Some (shown-text fault) };
 
     fn fmt<W: fmt::Write>(&self, f: &mut fmt::Formatter<W>) -> fmt::Result {
         match self {
@@ -39,7 +39,7 @@ pub enum MakeFault {
 }
 
 pub impl fmt::Display for MakeFault as MakeFaultDisplay {
-    ghost shown = { λ fault. Some (shownMake fault) };
+    ghost shown = { λ fault. Some (shown-make fault) };
 
     fn fmt<W: fmt::Write>(&self, f: &mut fmt::Formatter<W>) -> fmt::Result {
         match self {

@@ -5,12 +5,12 @@ ghost use mathlib.Core.List.{[], _∷_};
 ghost use Prim.Native.Nat.{_<_, _≤_};
 ghost use lib.ListN.{length};
 ghost use Rattle.std.specs.Options.{Cases};
-ghost use Rattle.lines.specs.Record.{recordOf};
+ghost use Rattle.lines.specs.Record.{record-of};
 ghost use Rattle.lines.specs.Parsed.{parsed};
-ghost use Rattle.session_texts.specs.Lines.{lineEnd, linesOf, linesBehind};
-ghost use Rattle.session_texts.specs.Records.{recordSize, isEvent};
+ghost use Rattle.session_texts.specs.Lines.{line-end, lines-of, lines-behind};
+ghost use Rattle.session_texts.specs.Records.{record-size, is-event};
 ghost use Rattle.session_texts.specs.Told.{added, heard};
-ghost use Rattle.session_texts.specs.Drafts.{recordsOf, Heard, ToldBy};
+ghost use Rattle.session_texts.specs.Drafts.{records-of, Heard, ToldBy};
 use crate::draft::Draft;
 use crate::fault::MakeFault;
 use crate::fault::TextFault;
@@ -20,7 +20,7 @@ use std::alloc::Global;
 
 // How many bytes a record takes in a file.
 fn record_size(line: &Line) -> usize
-    ensures { λ r. ⌜ r ≡ recordSize (recordOf (now (line .entry))) ⌝ }
+    ensures { λ r. ⌜ r ≡ record-size (record-of (now (line .entry))) ⌝ }
 {
     match line {
         Line::Deposit(_) => 4,
@@ -34,7 +34,7 @@ fn record_size(line: &Line) -> usize
 
 // Whether the line says an event.
 fn is_event(line: &Line) -> bool
-    ensures { λ r. ⌜ r ≡ isEvent (recordOf (now (line .entry))) ⌝ }
+    ensures { λ r. ⌜ r ≡ is-event (record-of (now (line .entry))) ⌝ }
 {
     match line {
         Line::Deposit(_) => false,
@@ -49,7 +49,7 @@ fn is_event(line: &Line) -> bool
 impl Draft {
     /// Nothing told yet: a file of a header alone.
     pub(crate) fn new(heap: Global) -> Draft
-        ensures { λ r. ⌜ recordsOf r ≡ [] ⌝ }
+        ensures { λ r. ⌜ records-of r ≡ [] ⌝ }
     {
         Draft {
             lines: Vec::new(heap),
@@ -67,7 +67,7 @@ impl Draft {
 
     // One record more, on the line of this number.
     fn add(&mut self, number: usize, line: Line) -> Result<(), MakeFault>
-        ensures { λ r. ⌜ Heard r number (added (recordsOf (now (self .entry))) (recordOf line)) (recordsOf (now (self .exit))) ⌝ }
+        ensures { λ r. ⌜ Heard r number (added (records-of (now (self .entry))) (record-of line)) (records-of (now (self .exit))) ⌝ }
     {
         let width = record_size(&line);
         let is_event = is_event(&line);
@@ -89,7 +89,7 @@ impl Draft {
 
     /// Hears the line of this number.
     pub(crate) fn hear(&mut self, number: usize, text: &[u8]) -> Result<(), MakeFault>
-        ensures { λ r. ⌜ Heard r number (heard (recordsOf (now (self .entry))) (parsed (now (text .entry)))) (recordsOf (now (self .exit))) ⌝ }
+        ensures { λ r. ⌜ Heard r number (heard (records-of (now (self .entry))) (parsed (now (text .entry)))) (records-of (now (self .exit))) ⌝ }
     {
         match parse_line(text) {
             Ok(None) => Ok(()),
@@ -101,7 +101,7 @@ impl Draft {
 
 // Where the first line of a text ends.
 fn line_end(text: &[u8]) -> usize
-    ensures value { λ r. ⌜ r ≡ lineEnd (now (text .entry)) ⌝ }
+    ensures value { λ r. ⌜ r ≡ line-end (now (text .entry)) ⌝ }
     ensures within { λ r. ⌜ r ≤ length (now (text .entry)) ⌝ }
 {
     for (at, byte) in text.iter().enumerate() {
@@ -114,7 +114,7 @@ fn line_end(text: &[u8]) -> usize
 
 // The first line of a text, and what stands behind its newline, if it has one.
 fn split_line(text: &[u8]) -> (&[u8], Option<&[u8]>)
-    ensures lines { λ r. ⌜ linesOf (now (text .entry)) ≡ now (r .0) ∷ linesBehind (r .1) ⌝ }
+    ensures lines { λ r. ⌜ lines-of (now (text .entry)) ≡ now (r .0) ∷ lines-behind (r .1) ⌝ }
     ensures shorter { λ r. ⌜ Cases (r .1) (Unit {0}) (λ rest. length (now rest) < length (now (text .entry))) ⌝ }
 {
     let end = line_end(text);

@@ -7,12 +7,12 @@ ghost use lib.ListN.{length};
 ghost use Rattle.std.specs.Of.Vec.{vec-items};
 ghost use Rattle.std.specs.Vec.{made};
 ghost use Rattle.std.specs.shelf.Lists.{All};
-ghost use Rattle.records.specs.Event.{valueOf, rowFits};
-ghost use Rattle.lines.specs.Record.{recordOf};
-ghost use Rattle.sessions.specs.Layout.{sizeOf};
-ghost use Rattle.session_writer.specs.Writing.{sessionBytes};
-ghost use Rattle.session_texts.specs.Records.{depositsIn, eventsIn, fileOf};
-ghost use Rattle.session_texts.specs.Drafts.{recordsOf, MadeFrom};
+ghost use Rattle.records.specs.Event.{value-of, row-fits};
+ghost use Rattle.lines.specs.Record.{record-of};
+ghost use Rattle.sessions.specs.Layout.{size-of};
+ghost use Rattle.session_writer.specs.Writing.{session-bytes};
+ghost use Rattle.session_texts.specs.Records.{deposits-in, events-in, file-of};
+ghost use Rattle.session_texts.specs.Drafts.{records-of, MadeFrom};
 ghost use Rattle.session_texts.specs.Again.{MadeAgain};
 use crate::draft::Draft;
 use crate::fault::MakeFault;
@@ -25,7 +25,7 @@ use std::alloc::Global;
 
 // The deposits among these lines.
 fn deposits_in(heap: Global, lines: &[Line]) -> Result<Vec<u32>, AllocError>
-    ensures { λ r. ⌜ made r (λ v. vec-items v ≡ depositsIn (map recordOf (now (lines .entry)))) ⌝ }
+    ensures { λ r. ⌜ made r (λ v. vec-items v ≡ deposits-in (map record-of (now (lines .entry)))) ⌝ }
 {
     let mut deposits = Vec::new(heap);
     for line in lines {
@@ -39,8 +39,8 @@ fn deposits_in(heap: Global, lines: &[Line]) -> Result<Vec<u32>, AllocError>
 
 // The events among these lines.
 fn events_in(heap: Global, lines: &[Line]) -> Result<Vec<Event<'_>>, AllocError>
-    ensures value { λ r. ⌜ made r (λ v. map valueOf (vec-items v) ≡ eventsIn (map recordOf (now (lines .entry)))) ⌝ }
-    ensures rows { λ r. ⌜ made r (λ v. All (λ e. rowFits (valueOf e) ≡ true) (vec-items v)) ⌝ }
+    ensures value { λ r. ⌜ made r (λ v. map value-of (vec-items v) ≡ events-in (map record-of (now (lines .entry)))) ⌝ }
+    ensures rows { λ r. ⌜ made r (λ v. All (λ e. row-fits (value-of e) ≡ true) (vec-items v)) ⌝ }
 {
     let mut events = Vec::new(heap);
     for line in lines {
@@ -59,10 +59,10 @@ fn file_of(
     deposits: &[u32],
     events: &[Event],
 ) -> Result<Vec<u8>, AllocError>
-    requires size { ⌜ size ≡ sizeOf (length (now deposits)) (length (now events)) ⌝ }
+    requires size { ⌜ size ≡ size-of (length (now deposits)) (length (now events)) ⌝ }
     requires small { ⌜ size ≤ 65536 ⌝ }
-    requires rows { ⌜ All (λ e. rowFits (valueOf e) ≡ true) (now events) ⌝ }
-    ensures { λ r. ⌜ made r (λ v. vec-items v ≡ sessionBytes (now (deposits .entry)) (map valueOf (now (events .entry)))) ⌝ }
+    requires rows { ⌜ All (λ e. row-fits (value-of e) ≡ true) (now events) ⌝ }
+    ensures { λ r. ⌜ made r (λ v. vec-items v ≡ session-bytes (now (deposits .entry)) (map value-of (now (events .entry)))) ⌝ }
 {
     let mut file = vec![in heap; 0; size]?;
     match put_session(&mut file, deposits, events) {
@@ -74,7 +74,7 @@ fn file_of(
 impl Draft {
     // The file of what was told.
     fn file(&self, heap: Global) -> Result<Vec<u8>, AllocError>
-        ensures { λ r. ⌜ made r (λ v. vec-items v ≡ fileOf (recordsOf (now (self .entry)))) ⌝ }
+        ensures { λ r. ⌜ made r (λ v. vec-items v ≡ file-of (records-of (now (self .entry)))) ⌝ }
     {
         let deposits = deposits_in(heap, &self.lines)?;
         let events = events_in(heap, &self.lines)?;

@@ -5,28 +5,28 @@ use mathlib.Core.Bool.{true}
 use Prim.Native.Nat.{ℕ, _+_, _<_}
 use lib.ListN.{length, take, drop, getD}
 use Rattle.std.specs.declared.result.Result.the-variants.{Ok}
-use Rattle.records.specs.Event.{EventValue, close, encoded, rowFits, Keeps}
+use Rattle.records.specs.Event.{EventValue, close, encoded, row-fits, Keeps}
 use Rattle.faults.specs.declared.section.Section.{Section}
 use Rattle.faults.specs.declared.section.Section.the-variants.{Deposits, Events}
 use Rattle.sessions.specs.Layout.{count, place, width}
-use Rattle.sessions.specs.Reading.{opened, recordAt, depositAt, eventAt}
+use Rattle.sessions.specs.Reading.{opened, record-at, deposit-at, event-at}
 
 -- the file new is the file old, but for the bytes of the record n of the section s: every other record reads as before
 pub record OnlyRecord (s : Section) (old new : List ℕ) (n : ℕ) : Type 0 where
   pub opens : opened new ≡ opened old
   pub counts : (t : Section) → count t new ≡ count t old
-  pub others : (t : Section) (k : ℕ) → ((t ≡ s) × (k ≡ n) → ⊥) → recordAt t new k ≡ recordAt t old k
+  pub others : (t : Section) (k : ℕ) → ((t ≡ s) × (k ≡ n) → ⊥) → record-at t new k ≡ record-at t old k
   pub before : take (place s old n) new ≡ take (place s old n) old
   pub behind : drop (place s old n + width s) new ≡ drop (place s old n + width s) old
 
 -- and the deposit n is these dollars
 pub record DepositIn (old new : List ℕ) (n dollars : ℕ) : Type 0 where
-  pub here : depositAt new n ≡ Ok dollars
+  pub here : deposit-at new n ≡ Ok dollars
   pub only : OnlyRecord Deposits old new n
 
 -- and the event n is this one
 pub record EventIn (old new : List ℕ) (n : ℕ) (e : EventValue) : Type 0 where
-  pub here : eventAt new n ≡ Ok e
+  pub here : event-at new n ≡ Ok e
   pub only : OnlyRecord Events old new n
 
 -- the file new may be read, has places for c deposits and m events, and is the memory old behind its header
@@ -38,7 +38,7 @@ pub record HeaderIn (old new : List ℕ) (c m : ℕ) : Type 0 where
 
 -- the event can be kept in 16 bytes
 abbrev pub Kept : EventValue → Type 0
-Kept e = (rowFits e ≡ true) × Keeps (encoded e) e
+Kept e = (row-fits e ≡ true) × Keeps (encoded e) e
 
 abbrev pub AllKept : List EventValue → Type 0
 AllKept es = (k : ℕ) → k < length es → Kept (getD es k close)
@@ -48,5 +48,5 @@ pub record SessionIn (bs : List ℕ) (ds : List ℕ) (es : List EventValue) : Ty
   pub opens : opened bs ≡ Ok tt
   pub deposits : count Deposits bs ≡ length ds
   pub events : count Events bs ≡ length es
-  pub allDeposits : (k : ℕ) → k < length ds → depositAt bs (k + 1) ≡ Ok (getD ds k 0)
-  pub allEvents : (k : ℕ) → k < length es → eventAt bs (k + 1) ≡ Ok (getD es k close)
+  pub all-deposits : (k : ℕ) → k < length ds → deposit-at bs (k + 1) ≡ Ok (getD ds k 0)
+  pub all-events : (k : ℕ) → k < length es → event-at bs (k + 1) ≡ Ok (getD es k close)

@@ -6,9 +6,9 @@ ghost use lib.ListN.{length};
 ghost use Rattle.std.specs.Vec.{made};
 ghost use Rattle.std.specs.declared.result.Result.the-variants.{Ok};
 ghost use Rattle.std.specs.shelf.Lists.{joined};
-ghost use Rattle.records.specs.Bytes.{bytesOf};
-ghost use Rattle.records.specs.Event.{valueOf, encoded};
-ghost use Rattle.session_writer.specs.Writing.{written, Room, rowsFit, sessionFits, sessionPut, Wrote};
+ghost use Rattle.records.specs.Bytes.{bytes-of};
+ghost use Rattle.records.specs.Event.{value-of, encoded};
+ghost use Rattle.session_writer.specs.Writing.{written, Room, rows-fit, session-fits, session-put, Wrote};
 ghost use Rattle.session_writer.specs.RoundTrip.{AllKept, SessionIn};
 use crate::number::bytes_u32;
 use crate::writer::check_room;
@@ -19,8 +19,8 @@ use records::encode;
 
 // Every event can be kept, or the first that can't is refused.
 fn check_rows(events: &[Event]) -> Result<(), FileFault>
-    ensures value { λ r. ⌜ r ≡ rowsFit 1 (map valueOf (now (events .entry))) ⌝ }
-    ensures kept { λ r. ⌜ made r (λ _. AllKept (map valueOf (now (events .entry)))) ⌝ }
+    ensures value { λ r. ⌜ r ≡ rows-fit 1 (map value-of (now (events .entry))) ⌝ }
+    ensures kept { λ r. ⌜ made r (λ _. AllKept (map value-of (now (events .entry)))) ⌝ }
 {
     for (i, event) in events.iter().enumerate() {
         if let Err(fault) = encode(*event) {
@@ -32,9 +32,9 @@ fn check_rows(events: &[Event]) -> Result<(), FileFault>
 
 // Whether so many deposits and these events can be written into a memory of this size.
 fn check_session(size: usize, deposits: usize, events: &[Event]) -> Result<(), FileFault>
-    ensures value { λ r. ⌜ r ≡ sessionFits size deposits (map valueOf (now (events .entry))) ⌝ }
+    ensures value { λ r. ⌜ r ≡ session-fits size deposits (map value-of (now (events .entry))) ⌝ }
     ensures room { λ r. ⌜ made r (λ _. Room size deposits (length (now (events .entry)))) ⌝ }
-    ensures kept { λ r. ⌜ made r (λ _. AllKept (map valueOf (now (events .entry)))) ⌝ }
+    ensures kept { λ r. ⌜ made r (λ _. AllKept (map value-of (now (events .entry)))) ⌝ }
 {
     check_room(size, deposits, events.len())?;
     check_rows(events)
@@ -43,7 +43,7 @@ fn check_session(size: usize, deposits: usize, events: &[Event]) -> Result<(), F
 // Writes the deposits one behind the other, from byte 16 on.
 fn write_deposits(memory: &mut [u8], deposits: &[u32])
     requires { ⌜ 16 + 4 * length (now deposits) ≤ length (now memory) ⌝ }
-    ensures { λ _. ⌜ now (memory .exit) ≡ written (now (memory .entry)) 16 (joined (bytesOf 4) (now (deposits .entry))) ⌝ }
+    ensures { λ _. ⌜ now (memory .exit) ≡ written (now (memory .entry)) 16 (joined (bytes-of 4) (now (deposits .entry))) ⌝ }
 {
     for (i, dollars) in deposits.iter().enumerate() {
         let at = 16 + 4 * i;
@@ -54,8 +54,8 @@ fn write_deposits(memory: &mut [u8], deposits: &[u32])
 // Writes the events one behind the other, from this place on.
 fn write_events(memory: &mut [u8], start: usize, events: &[Event])
     requires room { ⌜ start + 16 * length (now events) ≤ length (now memory) ⌝ }
-    requires kept { ⌜ AllKept (map valueOf (now events)) ⌝ }
-    ensures { λ _. ⌜ now (memory .exit) ≡ written (now (memory .entry)) start (joined encoded (map valueOf (now (events .entry)))) ⌝ }
+    requires kept { ⌜ AllKept (map value-of (now events)) ⌝ }
+    ensures { λ _. ⌜ now (memory .exit) ≡ written (now (memory .entry)) start (joined encoded (map value-of (now (events .entry)))) ⌝ }
 {
     for (i, event) in events.iter().enumerate() {
         let at = start + 16 * i;
@@ -68,11 +68,11 @@ fn write_events(memory: &mut [u8], start: usize, events: &[Event])
 
 // Writes a session that fits: the header, the deposits and the events.
 fn write_session(memory: &mut [u8], deposits: &[u32], events: &[Event])
-    requires fits { ⌜ Ok tt ≡ sessionFits (length (now memory)) (length (now deposits)) (map valueOf (now events)) ⌝ }
+    requires fits { ⌜ Ok tt ≡ session-fits (length (now memory)) (length (now deposits)) (map value-of (now events)) ⌝ }
     requires room { ⌜ Room (length (now memory)) (length (now deposits)) (length (now events)) ⌝ }
-    requires kept { ⌜ AllKept (map valueOf (now events)) ⌝ }
-    ensures wrote { λ _. ⌜ sessionPut (now (memory .entry)) (now (deposits .entry)) (map valueOf (now (events .entry))) ≡ Ok (now (memory .exit)) ⌝ }
-    ensures reads { λ _. ⌜ SessionIn (now (memory .exit)) (now (deposits .entry)) (map valueOf (now (events .entry))) ⌝ }
+    requires kept { ⌜ AllKept (map value-of (now events)) ⌝ }
+    ensures wrote { λ _. ⌜ session-put (now (memory .entry)) (now (deposits .entry)) (map value-of (now (events .entry))) ≡ Ok (now (memory .exit)) ⌝ }
+    ensures reads { λ _. ⌜ SessionIn (now (memory .exit)) (now (deposits .entry)) (map value-of (now (events .entry))) ⌝ }
 {
     memory[0..16].copy_from_slice(&header(deposits.len() as u16, events.len() as u16));
     write_deposits(memory, deposits);
@@ -81,8 +81,8 @@ fn write_session(memory: &mut [u8], deposits: &[u32], events: &[Event])
 
 /// Writes a whole session: the header, these deposits and these events. A refusal leaves the memory as it was.
 pub fn put_session(memory: &mut [u8], deposits: &[u32], events: &[Event]) -> Result<(), FileFault>
-    ensures wrote { λ r. ⌜ Wrote r (now (memory .entry)) (now (memory .exit)) (sessionPut (now (memory .entry)) (now (deposits .entry)) (map valueOf (now (events .entry)))) ⌝ }
-    ensures reads { λ r. ⌜ made r (λ _. SessionIn (now (memory .exit)) (now (deposits .entry)) (map valueOf (now (events .entry)))) ⌝ }
+    ensures wrote { λ r. ⌜ Wrote r (now (memory .entry)) (now (memory .exit)) (session-put (now (memory .entry)) (now (deposits .entry)) (map value-of (now (events .entry)))) ⌝ }
+    ensures reads { λ r. ⌜ made r (λ _. SessionIn (now (memory .exit)) (now (deposits .entry)) (map value-of (now (events .entry)))) ⌝ }
 {
     check_session(memory.len(), deposits.len(), events)?;
     write_session(memory, deposits, events);

@@ -2,19 +2,19 @@
 use mathlib.Core.List.{List, _++_}
 use Prim.Native.Nat.{ℕ, _+_, _*_, _-_}
 use lib.Chars.{codes}
-use Rattle.records.specs.Bytes.{be, bytesOf}
+use Rattle.records.specs.Bytes.{be, bytes-of}
 use Rattle.faults.specs.declared.section.Section.{Section}
 use Rattle.faults.specs.declared.section.Section.the-variants.{Deposits, Events}
-use Rattle.faults.specs.Sections.{offsetAt}
+use Rattle.faults.specs.Sections.{offset-at}
 
 -- the letters that begin a file
 abbrev pub letters : List ℕ
 letters = codes "SOSA"
 
 -- where the header keeps the number of a section's records, in two bytes
-abbrev pub countAt : Section → ℕ
-countAt Deposits = 4
-countAt Events = 6
+abbrev pub count-at : Section → ℕ
+count-at Deposits = 4
+count-at Events = 6
 
 -- how many bytes a record has
 abbrev pub width : Section → ℕ
@@ -23,10 +23,10 @@ width Events = 16
 
 -- how many records a section of the file bs has, where it starts, and where it ends
 abbrev pub count : Section → List ℕ → ℕ
-count s bs = be 2 bs (countAt s)
+count s bs = be 2 bs (count-at s)
 
 abbrev pub start : Section → List ℕ → ℕ
-start s bs = be 4 bs (offsetAt s)
+start s bs = be 4 bs (offset-at s)
 
 abbrev pub finish : Section → List ℕ → ℕ
 finish s bs = start s bs + width s * count s bs
@@ -36,8 +36,8 @@ abbrev pub place : Section → List ℕ → ℕ → ℕ
 place s bs n = start s bs + width s * (n - 1)
 
 -- the standard layout of c deposits and m events: the header, the deposits at 16, the events right behind them
-abbrev pub headerOf : ℕ → ℕ → List ℕ
-headerOf c m = letters ++ (bytesOf 2 c ++ (bytesOf 2 m ++ (bytesOf 4 16 ++ bytesOf 4 (16 + 4 * c))))
+abbrev pub header-of : ℕ → ℕ → List ℕ
+header-of c m = letters ++ (bytes-of 2 c ++ (bytes-of 2 m ++ (bytes-of 4 16 ++ bytes-of 4 (16 + 4 * c))))
 
-abbrev pub sizeOf : ℕ → ℕ → ℕ
-sizeOf c m = 16 + 4 * c + 16 * m
+abbrev pub size-of : ℕ → ℕ → ℕ
+size-of c m = 16 + 4 * c + 16 * m

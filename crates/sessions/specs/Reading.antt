@@ -19,9 +19,9 @@ use Rattle.faults.specs.declared.file.FileFault.the-variants.{Short, Letters, S
 use Rattle.sessions.specs.Layout.{letters, count, start, finish, place, width}
 
 -- the tests in their order, each with its refusal: the first that applies is the answer
-abbrev pub firstOf : List (Bool × FileFault) → Result (Unit {0}) FileFault
-firstOf [] = Ok tt
-firstOf (test ∷ tests) = cond (test .0) (Err (test .1)) (firstOf tests)
+abbrev pub first-of : List (Bool × FileFault) → Result (Unit {0}) FileFault
+first-of [] = Ok tt
+first-of (test ∷ tests) = cond (test .0) (Err (test .1)) (first-of tests)
 
 -- a section starts before byte 16 or passes the end
 abbrev pub outside : Section → List ℕ → Bool
@@ -34,7 +34,7 @@ overlap a b c d = ltb a b && (ltb c d && (ltb a d && ltb c b))
 -- whether these bytes are a session file, and why not
 abbrev pub opened : List ℕ → Result (Unit {0}) FileFault
 opened bs =
-    firstOf
+    first-of
     ((ltb (length bs) 16, Short (length bs))
     ∷ (not (sameBytes (take 4 bs) letters), Letters)
     ∷ (outside Deposits bs, BadSection Deposits)
@@ -47,8 +47,8 @@ abbrev pub admitted : List ℕ → Result (Unit {0}) FileFault
 admitted bs = cond (ltb 65536 (length bs)) (Err Oversize) (opened bs)
 
 -- how many records there are to read: none in what is no session file
-abbrev pub countIn : Section → List ℕ → ℕ
-countIn s bs = cond (isOk (opened bs)) (count s bs) 0
+abbrev pub count-in : Section → List ℕ → ℕ
+count-in s bs = cond (isOk (opened bs)) (count s bs) 0
 
 -- there is a record of the number n, of so many
 abbrev pub numbered : ℕ → ℕ → Bool
@@ -64,17 +64,17 @@ abbrev pub located : Section → List ℕ → ℕ → Result ℕ FileFault
 located s bs n = next (opened bs) (λ _. cond (numbered n (count s bs)) (Ok (place s bs n)) (Err (NoRecord n)))
 
 -- its bytes
-abbrev pub recordAt : Section → List ℕ → ℕ → Result (List ℕ) FileFault
-recordAt s bs n = next (located s bs n) (λ at. Ok (between at (at + width s) bs))
+abbrev pub record-at : Section → List ℕ → ℕ → Result (List ℕ) FileFault
+record-at s bs n = next (located s bs n) (λ at. Ok (between at (at + width s) bs))
 
 -- an event's own refusal is told with its number
-abbrev pub ofNumber : {A : Type 0} → ℕ → Result A RecordFault → Result A FileFault
-ofNumber n (Ok a) = Ok a
-ofNumber n (Err f) = Err (Record n f)
+abbrev pub of-number : {A : Type 0} → ℕ → Result A RecordFault → Result A FileFault
+of-number n (Ok a) = Ok a
+of-number n (Err f) = Err (Record n f)
 
 -- the deposit, and the event, of the number n
-abbrev pub depositAt : List ℕ → ℕ → Result ℕ FileFault
-depositAt bs n = next (recordAt Deposits bs n) (λ r. Ok (be 4 r 0))
+abbrev pub deposit-at : List ℕ → ℕ → Result ℕ FileFault
+deposit-at bs n = next (record-at Deposits bs n) (λ r. Ok (be 4 r 0))
 
-abbrev pub eventAt : List ℕ → ℕ → Result EventValue FileFault
-eventAt bs n = next (recordAt Events bs n) (λ r. ofNumber n (decoded r))
+abbrev pub event-at : List ℕ → ℕ → Result EventValue FileFault
+event-at bs n = next (record-at Events bs n) (λ r. of-number n (decoded r))

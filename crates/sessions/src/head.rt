@@ -3,7 +3,7 @@ ghost use mathlib.Core.Path.{_≡_};
 ghost use Prim.Native.Nat.{_+_, _≤_};
 ghost use lib.ListN.{length};
 ghost use Rattle.std.specs.Vec.{made};
-ghost use Rattle.sessions.specs.Layout.{countAt, width, count, start, finish};
+ghost use Rattle.sessions.specs.Layout.{count-at, width, count, start, finish};
 ghost use Rattle.sessions.specs.Reading.{opened, located};
 use crate::number::read_u16;
 use crate::number::read_u32;
@@ -15,7 +15,7 @@ pub const LETTERS: [u8; 4] = *b"SOSA";
 
 // Where the header keeps the number of a section's records.
 fn count_at(section: Section) -> usize
-    ensures { λ r. ⌜ r ≡ countAt section ⌝ }
+    ensures { λ r. ⌜ r ≡ count-at section ⌝ }
 {
     match section {
         Section::Deposits => 4,

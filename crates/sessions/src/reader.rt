@@ -8,7 +8,7 @@ ghost use Rattle.std.specs.declared.result.Result.the-variants.{Ok, Err};
 ghost use Rattle.records.specs.Bytes.{be};
 ghost use Rattle.records.specs.Event.{seen};
 ghost use Rattle.sessions.specs.Lent.{lent};
-ghost use Rattle.sessions.specs.Reading.{opened, admitted, countIn, depositAt, eventAt};
+ghost use Rattle.sessions.specs.Reading.{opened, admitted, count-in, deposit-at, event-at};
 use crate::head::check;
 use crate::head::count_of;
 use crate::head::place_of;
@@ -56,7 +56,7 @@ impl<'a> Reader<'a> {
 
     /// How many records the section has.
     pub fn count(&self, section: Section) -> usize
-        ensures { λ r. ⌜ r ≡ countIn section (lent (now (self .entry))) ⌝ }
+        ensures { λ r. ⌜ r ≡ count-in section (lent (now (self .entry))) ⌝ }
     {
         match check(self.bytes) {
             Ok(()) => count_of(self.bytes, section),
@@ -66,7 +66,7 @@ impl<'a> Reader<'a> {
 
     /// The deposit of this number, in dollars.
     pub fn deposit(&self, number: usize) -> Result<u32, FileFault>
-        ensures { λ r. ⌜ r ≡ depositAt (lent (now (self .entry))) number ⌝ }
+        ensures { λ r. ⌜ r ≡ deposit-at (lent (now (self .entry))) number ⌝ }
     {
         let at = place_of(self.bytes, Section::Deposits, number)?;
         Ok(deposit_in(self.bytes, at))
@@ -74,7 +74,7 @@ impl<'a> Reader<'a> {
 
     /// The event of this number.
     pub fn event(&self, number: usize) -> Result<Event<'a>, FileFault>
-        ensures { λ r. ⌜ seen r ≡ eventAt (lent (now (self .entry))) number ⌝ }
+        ensures { λ r. ⌜ seen r ≡ event-at (lent (now (self .entry))) number ⌝ }
     {
         let at = place_of(self.bytes, Section::Events, number)?;
         match <&[u8; 16]>::try_from(&self.bytes[at..at + 16]) {

@@ -13,7 +13,7 @@ use steps::Step;
 use steps::StepRecord;
 
 /// How many steps more the book takes.
-pub fn left<B: StepBook>(book: &B) -> u16
+pub(crate) fn left<B: StepBook>(book: &B) -> u16
     ensures { λ r. ⌜ r ≡ B·StepBook .size (now (book .entry)) - length (B·StepBook .steps (now (book .entry))) ⌝ }
 {
     let (count, size) = book.count();
@@ -21,7 +21,7 @@ pub fn left<B: StepBook>(book: &B) -> u16
 }
 
 /// Enters a step and reads it back.
-pub fn enter<B: StepBook>(book: &mut B, seat: u8, market: u8) -> Result<Step, BookFault>
+pub(crate) fn enter<B: StepBook>(book: &mut B, seat: u8, market: u8) -> Result<Step, BookFault>
     ensures after { λ _. ⌜ B·StepBook .steps (now (book .exit)) ≡ put-after (B·StepBook .size (now (book .entry))) (B·StepBook .steps (now (book .entry))) (entered (B·StepBook .steps (now (book .entry))) seat market 100 7 50) ⌝ }
     ensures reply { λ r. ⌜ Cases r (λ step. step .stored ≡ entered (B·StepBook .steps (now (book .entry))) seat market 100 7 50) (λ _. Unit {0}) ⌝ }
 {
@@ -30,7 +30,7 @@ pub fn enter<B: StepBook>(book: &mut B, seat: u8, market: u8) -> Result<Step, Bo
 }
 
 /// What two books with the same steps answer for the next one: the same.
-pub fn next_in_both<B: StepBook, C: StepBook>(
+pub(crate) fn next_in_both<B: StepBook, C: StepBook>(
     one: &B,
     other: &C,
     market: u8,
@@ -46,7 +46,7 @@ pub fn next_in_both<B: StepBook, C: StepBook>(
 }
 
 /// Enters one step into lent records, which hold it afterwards; those past the 1,024th are as they were.
-pub fn lend(records: &mut [StepRecord], seat: u8, market: u8)
+pub(crate) fn lend(records: &mut [StepRecord], seat: u8, market: u8)
     ensures steps { λ _. ⌜ take (length (put-after (min (length (now (records .entry))) 1024) [] (entered [] seat market 100 7 50))) (now (records .exit)) ≡ put-after (min (length (now (records .entry))) 1024) [] (entered [] seat market 100 7 50) ⌝ }
     ensures beyond { λ _. ⌜ drop (min (length (now (records .entry))) 1024) (now (records .exit)) ≡ drop (min (length (now (records .entry))) 1024) (now (records .entry)) ⌝ }
 {

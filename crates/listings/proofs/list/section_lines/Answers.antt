@@ -2,9 +2,9 @@ use mathlib.Core.Path.{_≡_, ap, _∙_}
 use native.Mathlib.Omega.{arith}
 use Rattle.std.proofs.shelf.Results.{err-from-errBy}
 use Rattle.sessions.specs.Lent.{lent}
-use Rattle.listings.specs.Texts.{upTo}
-use Rattle.listings.specs.Listed.{recordLine}
-use Rattle.listings.proofs.Lines.{upTo-more}
+use Rattle.listings.specs.Texts.{up-to}
+use Rattle.listings.specs.Listed.{record-line}
+use Rattle.listings.proofs.Lines.{up-to-more}
 use Rattle.listings.proofs.list.section_lines.Needs as need
 
 pub returns-in-Break-push-line : need.returns-in-Break-push-line
@@ -12,9 +12,9 @@ returns-in-Break-push-line c = let p = err-from-errBy (c .from-residual-in-Break
 
 pub loop-i-again : need.loop-i-again
 loop-i-again c =
-    upTo-more (recordLine (c .args .section) (lent (c .args .reader .now))) (c .loop-i .i) _ _ _ (c .loop-i .inv) (c .as-str .ensures .value ∙ c .in-Continue-line .ensures tt) (c .in-Continue-push-line .ensures tt)
+    up-to-more (record-line (c .args .section) (lent (c .args .reader .now))) (c .loop-i .i) _ _ _ (c .loop-i .inv) (c .as-str .ensures .value ∙ c .in-Continue-line .ensures tt) (c .in-Continue-push-line .ensures tt)
 
 pub returns : need.returns
 returns c =
     let n : c .loop-i .i ≡ c .count-i-end .result = omega arith in
-    c .loop-i .inv ∙ ap (λ k. upTo (recordLine (c .args .section) (lent (c .args .reader .now))) k) (n ∙ c .count-i-end .ensures)
+    c .loop-i .inv ∙ ap (λ k. up-to (record-line (c .args .section) (lent (c .args .reader .now))) k) (n ∙ c .count-i-end .ensures)

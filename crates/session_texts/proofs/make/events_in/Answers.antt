@@ -1,5 +1,5 @@
 use mathlib.Core.Path.{refl}
-use Rattle.session_texts.specs.Records.{eventsIn}
+use Rattle.session_texts.specs.Records.{events-in}
 use Rattle.session_texts.proofs.Among.{event-passed, none-passed, none-left, rows-pushed}
 use Rattle.session_texts.proofs.make.events_in.Needs as need
 
@@ -14,4 +14,4 @@ loop-line-again c =
 
 pub returns : need.returns
 returns c =
-    record { value = none-left eventsIn refl (c .args .lines .now) (c .loop-line .line-index) (c .loop-line-test .left) _ _ (c .loop-line .inv .0); rows = c .loop-line .inv .1 }
+    record { value = none-left events-in refl (c .args .lines .now) (c .loop-line .line-index) (c .loop-line-test .left) _ _ (c .loop-line .inv .0); rows = c .loop-line .inv .1 }

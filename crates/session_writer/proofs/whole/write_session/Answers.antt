@@ -4,10 +4,10 @@ use Prim.Native.Nat.{ℕ}
 use native.Mathlib.Omega.{arith}
 use lib.ListN.{length, drop}
 use Rattle.std.proofs.shelf.Lists.{length-map}
-use Rattle.records.specs.Event.{valueOf}
-use Rattle.sessions.specs.Layout.{headerOf}
+use Rattle.records.specs.Event.{value-of}
+use Rattle.sessions.specs.Layout.{header-of}
 use Rattle.session_writer.specs.Writing.{Room}
-use Rattle.session_writer.proofs.Wholes.{session-put}
+use Rattle.session_writer.proofs.Wholes.{session-is-put}
 use Rattle.session_writer.proofs.whole.write_session.Needs as need
 
 pub cast-deposits : need.cast-deposits
@@ -22,7 +22,7 @@ write-events-requires c κs =
 
 pub returns : need.returns
 returns c =
-    let n : length (c .args .events .now) ≡ length (map valueOf (c .args .events .now)) = sym (length-map (c .args .events .now) valueOf) in
-    let top = ap (λ l. l ++ drop 16 (c .args .memory .now)) (c .copy-from-slice .ensures .after ∙ c .header .ensures ∙ ap (λ m. headerOf (length (c .args .deposits .now)) m) n) in
-    let p = session-put (c .args .memory .now) _ _ _ (c .args .deposits .now) (map valueOf (c .args .events .now)) (c .pre .fits) (subst (λ (m : ℕ). Room (length (c .args .memory .now)) (length (c .args .deposits .now)) m) n (c .pre .room)) (λ k. omega (arith, c .typed .deposits k)) (c .pre .kept) top (c .write-deposits .ensures) (c .write-events .ensures) in
+    let n : length (c .args .events .now) ≡ length (map value-of (c .args .events .now)) = sym (length-map (c .args .events .now) value-of) in
+    let top = ap (λ l. l ++ drop 16 (c .args .memory .now)) (c .copy-from-slice .ensures .after ∙ c .header .ensures ∙ ap (λ m. header-of (length (c .args .deposits .now)) m) n) in
+    let p = session-is-put (c .args .memory .now) _ _ _ (c .args .deposits .now) (map value-of (c .args .events .now)) (c .pre .fits) (subst (λ (m : ℕ). Room (length (c .args .memory .now)) (length (c .args .deposits .now)) m) n (c .pre .room)) (λ k. omega (arith, c .typed .deposits k)) (c .pre .kept) top (c .write-deposits .ensures) (c .write-events .ensures) in
     record { wrote = p .0; reads = p .1 }
