@@ -1,0 +1,6 @@
+pub mod Faults
+pub mod Lists
+pub mod Books
+pub mod Sales
+pub mod Tallies
+pub mod Fair
