@@ -4,3 +4,5 @@ pub mod Books
 pub mod Sales
 pub mod Tallies
 pub mod Fair
+pub mod Bonds
+pub mod Cases

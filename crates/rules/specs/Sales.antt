@@ -115,6 +115,10 @@ abbrev pub short : Option ℕ → ℕ → ℕ → Bool
 short None i d = false
 short (Some c) i d = ltb d (c + i)
 
+-- a raise of a step at the discount own to d: below the clearing discount plus the increment, or not above its own
+abbrev pub low-raise : Option ℕ → ℕ → ℕ → ℕ → Bool
+low-raise clearing i own d = short clearing i d || leb d own
+
 -- n is not from 1 to top
 abbrev pub outside : ℕ → ℕ → Bool
 outside n top = eqb n 0 || ltb top n
@@ -172,7 +176,7 @@ tests s (raise seat number shares discount stamp) =
     ∷ refuse DiscountSize (ltb 10_000 discount)
     ∷ refuse StampBehind (ltb stamp (s .last-stamp))
     ∷ refuse NoClearing (missing (clearing-at s (x .bid .market)))
-    ∷ refuse LowRaise (short (clearing-at s (x .bid .market)) (increment s (x .bid .market)) discount || leb discount (x .bid .discount))
+    ∷ refuse LowRaise (low-raise (clearing-at s (x .bid .market)) (increment s (x .bid .market)) (x .bid .discount) discount)
     ∷ refuse (Book Full) (eqb (length (s .steps)) (s .size))
     ∷ []
 tests s close = refuse RoundShut (not (s .opened)) ∷ []

@@ -1,4 +1,5 @@
 //! The rules of a sale as definitions, and what is proved of every run of it. What a reader must believe stands in specs/.
+ghost use Rattle.rules.specs.Cases.{Worked-cases};
 ghost use Rattle.rules.specs.Fair.{Runs-are-fair};
 
 mod account;
@@ -21,6 +22,13 @@ pub use fault::SaleFaultPartialEq;
 /// Carries the theorem over every run as its contract.
 pub fn runs_are_fair() -> u8
     ensures { λ _. ⌜ Runs-are-fair ⌝ }
+{
+    0
+}
+
+/// Carries the worked cases, proved together, as its contract.
+pub fn cases_hold() -> u8
+    ensures { λ _. ⌜ Worked-cases ⌝ }
 {
     0
 }
