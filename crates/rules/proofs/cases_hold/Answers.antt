@@ -1,11 +1,11 @@
 -- Each case computes.
 use mathlib.Core.Path.{refl}
 use Rattle.rules.specs.Books.{ahead}
-use Rattle.rules.specs.Sales.{tests, answer}
+use Rattle.rules.specs.Sales.{tests, done, answer}
 use Rattle.rules.proofs.cases_hold.Needs as need
 
 pub returns : need.returns
-unfolding ahead tests answer
+unfolding ahead tests done answer
 returns c =
     record {
       deposits-buy = refl;
@@ -25,4 +25,7 @@ returns c =
       carried-from-bought = refl;
       remainder-kept = λ n x. refl;
       losing-first = refl;
+      opening-goes-on = refl;
+      quiet-round-ends = refl;
+      raised-goes-on = refl;
     }
