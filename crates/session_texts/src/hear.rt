@@ -16,6 +16,7 @@ use crate::fault::MakeFault;
 use crate::fault::TextFault;
 use lines::Line;
 use lines::parse_line;
+use sessions::MOST_BYTES;
 use std::alloc::Global;
 
 // How many bytes a record takes in a file.
@@ -74,7 +75,7 @@ impl Draft {
         if self.is_late(is_event) {
             return Err(MakeFault::Line(number, TextFault::LateDeposit));
         }
-        if self.size + width > 65_536 {
+        if self.size + width > MOST_BYTES {
             return Err(MakeFault::Line(number, TextFault::Oversize));
         }
         match self.lines.push(line) {
