@@ -1,4 +1,6 @@
 //! The accounts of a sale's seats, in a table of fixed size.
+#![tactic(auto)]
+
 mod account;
 mod account_calls;
 mod seats;

@@ -1,4 +1,6 @@
 //! Step books: the steps of a sale in order of entry, and which of a market's steps ranks next.
+#![tactic(auto)]
+
 mod book;
 mod flat;
 mod flat_calls;

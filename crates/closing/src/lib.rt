@@ -1,4 +1,6 @@
 //! Closing a round over any book: losing shares are rejected, and the lots are handed out down the rank.
+#![tactic(auto)]
+
 mod award;
 mod held;
 mod reject;

@@ -1,4 +1,6 @@
 //! Refusals: the layers they come from, and those of a session file. Books and sales have faults of their own, with the same layers.
+#![tactic(auto)]
+
 mod file;
 mod layer;
 mod record;

@@ -1,4 +1,6 @@
 //! One line of a session's text: what it says, and how it is written.
+#![tactic(auto)]
+
 mod fault;
 mod fields;
 mod line;

@@ -1,4 +1,6 @@
 //! A session file as text.
+#![tactic(auto)]
+
 mod list;
 #[cfg(test)]
 mod tests;

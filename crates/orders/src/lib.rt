@@ -1,4 +1,6 @@
 //! The orders of a seat: a new step, and a raise.
+#![tactic(auto)]
+
 mod enter;
 mod raise;
 

@@ -1,4 +1,6 @@
 //! Records with a group and an order, and which of a group comes next.
+#![tactic(auto)]
+
 mod bond;
 mod order;
 #[cfg(test)]

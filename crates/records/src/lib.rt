@@ -1,4 +1,6 @@
 //! One event of a session file: the value, and the 16 bytes that keep it.
+#![tactic(auto)]
+
 mod codec;
 mod event;
 #[cfg(test)]

@@ -1,4 +1,6 @@
 //! The rounds of a sale: their opening and their closing.
+#![tactic(auto)]
+
 mod close;
 mod open;
 

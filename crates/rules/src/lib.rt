@@ -1,4 +1,6 @@
 //! The rules of a sale as definitions, and what is proved of every run of it. What a reader must believe stands in specs/.
+#![tactic(auto)]
+
 ghost use Rattle.rules.specs.Cases.{WorkedCases};
 ghost use Rattle.rules.specs.Fair.{RunsAreFair};
 

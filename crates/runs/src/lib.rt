@@ -1,4 +1,6 @@
 //! Calls of a sale as values, made one after the other.
+#![tactic(auto)]
+
 mod call;
 mod run;
 

@@ -1,4 +1,6 @@
 //! The parts of a sale, its state as the rules see it, and what it is for a call to follow them.
+#![tactic(auto)]
+
 mod ledger;
 mod parts;
 mod parts_calls;

@@ -1,4 +1,6 @@
 //! Text as a session file.
+#![tactic(auto)]
+
 mod draft;
 mod fault;
 mod hear;

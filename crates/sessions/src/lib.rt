@@ -1,4 +1,6 @@
 //! The session file, read: deposits and events of a procurement over bytes that are lent.
+#![tactic(auto)]
+
 mod head;
 mod number;
 mod reader;

@@ -1,4 +1,6 @@
 //! Phase sheets: how many markets and opening rounds a phase has, what activity it asks for, and what its markets weigh.
+#![tactic(auto)]
+
 mod full_term;
 mod sheet;
 mod single_year;

@@ -1,4 +1,6 @@
 //! sos-list: a session file on standard input, its text on standard output.
+#![tactic(auto)]
+
 use listings::list_session;
 use sessions::MOST_BYTES;
 use std::io::Read;

@@ -1,4 +1,6 @@
 //! sos-make: the text of a session on standard input, its session file on standard output.
+#![tactic(auto)]
+
 use anyhow::anyhow;
 use session_texts::make_session;
 use std::io::{Read, Write};

@@ -1,4 +1,6 @@
 //! How a sale begins: its start with deposits, and the changeover from a first sale.
+#![tactic(auto)]
+
 mod changeover;
 mod start;
 

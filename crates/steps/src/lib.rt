@@ -1,4 +1,6 @@
 //! The steps of a sale: plain records, the rule that a step keeps, the rank of steps, and why a book refuses one.
+#![tactic(auto)]
+
 mod fault;
 mod rank;
 mod record;

@@ -1,4 +1,6 @@
 //! Sums over the steps of a book, and tests over lists of numbers.
+#![tactic(auto)]
+
 mod above;
 mod measure;
 mod shares;

@@ -1,4 +1,6 @@
 //! The winning steps of a market, in rank, over any book.
+#![tactic(auto)]
+
 mod held;
 mod winning;
 
