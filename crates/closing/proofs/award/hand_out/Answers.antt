@@ -9,8 +9,8 @@ loop-place-init g c = (refl, refl, refl, upto_none _ _ (g.B.StepBook.lawful c.ar
 pub loop-place-preserved : goal.loop-place-preserved
 loop-place-preserved g c =
     let inv = c.loop-place.invariant in
-    let e = c.hand-out-market.ensures in
-    let next = c.market-at.ensures in
+    let e = c.hand_out_market.ensures in
+    let next = c.market_at.ensures in
     let xs = g.B.StepBook.steps c.args.book.now in (
       e.size ∙ inv.0,
       e.lent ∙ inv.1,

@@ -5,8 +5,8 @@ use Rattle.closing.proofs.award.hand_out_market.Goals as goal
 pub loop-number-init : goal.loop-number-init
 loop-number-init g c = (refl, refl, refl, walked_none _ _ _)
 
-pub next-of-requires : goal.next-of-requires
-next-of-requires g c = walked_within _ _ _ _ _ _ _ c.loop-number.invariant.3
+pub next_of-requires : goal.next_of-requires
+next_of-requires g c = walked_within _ _ _ _ _ _ _ c.loop-number.invariant.3
 
 pub loop-number-smaller : goal.loop-number-smaller
 loop-number-smaller g c =
@@ -15,7 +15,7 @@ loop-number-smaller g c =
 pub loop-number-preserved : goal.loop-number-preserved
 loop-number-preserved g c =
     let inv = c.loop-number.invariant in
-    let e = c.award-step-walk.ensures in (
+    let e = c.award_step-walk.ensures in (
       e.size ∙ inv.0,
       e.lent ∙ inv.1,
       e.beyond ∙ inv.2,
@@ -29,6 +29,6 @@ returns g c =
       size = inv.0;
       lent = inv.1;
       beyond = inv.2;
-      steps = walked_steps _ _ _ _ _ _ _ inv.3 c.in-default.ensures;
-      clearing = walked_clearing _ _ _ _ _ _ _ inv.3 c.in-default.ensures;
+      steps = walked_steps _ _ _ _ _ _ _ inv.3 c.in_default.ensures;
+      clearing = walked_clearing _ _ _ _ _ _ _ inv.3 c.in_default.ensures;
     }

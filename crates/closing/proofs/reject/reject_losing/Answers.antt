@@ -5,8 +5,8 @@ use Rattle.closing.proofs.reject.reject_losing.Goals as goal
 pub loop-place-init : goal.loop-place-init
 loop-place-init g c = (refl, refl, refl, rejected_none _ (g.B.StepBook.lawful c.args.book.now).sound)
 
-pub reject-step-requires : goal.reject-step-requires
-reject-step-requires g c =
+pub reject_step-requires : goal.reject_step-requires
+reject_step-requires g c =
     let count = ap (λ (r : ℕ × ℕ). r.0) c.count-count.ensures in
     rejected_held _ (g.B.StepBook.lawful c.args.book.now).sound _ _ c.loop-place.invariant.3 (omega (arith, count))
 
@@ -14,7 +14,7 @@ pub loop-place-preserved : goal.loop-place-preserved
 loop-place-preserved g c =
     let count = ap (λ (r : ℕ × ℕ). r.0) c.count-count.ensures in
     let sound = (g.B.StepBook.lawful c.args.book.now).sound in
-    let e = c.reject-step.ensures in
+    let e = c.reject_step.ensures in
     let inv = c.loop-place.invariant in
     (e.size ∙ inv.0, e.lent ∙ inv.1, e.beyond ∙ inv.2, rejected_more _ sound _ _ inv.3 (omega (arith, count)) _ e.steps)
 

@@ -8,27 +8,27 @@ use Rattle.lines.proofs.fields.read_fields.Goals as goal
 pub loop-i-init : goal.loop-i-init
 loop-i-init g c = (after_none (fields c.args.limits 1 c.args.text.now), length-replicate g.row.N 0)
 
-pub returns-in-err-numbers : goal.returns-in-err-numbers
-returns-in-err-numbers g c =
+pub returns-in_err-numbers : goal.returns-in_err-numbers
+returns-in_err-numbers g c =
     let p = err_from_is_err_and c.from-residual.result c.from-residual.ensures.1 in
-    let e = rw c.split-word.ensures.first at c.in-err-numbers.ensures in
+    let e = rw c.split_word.ensures.first at c.in_err-numbers.ensures in
     let same = field_refused c.args.limits c.loop-i.i c.loop-i.left.now _ _ (omega arith) e ∙ c.loop-i.invariant.0 in
     rw (p.1, p.2) (record { read = same; within = tt })
 
 pub loop-i-preserved : goal.loop-i-preserved
 loop-i-preserved g c =
-    let e = rw c.split-word.ensures.first at c.in-ok-numbers.ensures in (
-      rw c.split-word.ensures.after (field_more c.args.limits c.loop-i.i c.loop-i.left.now c.loop-i.numbers _ (omega arith) (omega arith) e ∙ c.loop-i.invariant.0),
+    let e = rw c.split_word.ensures.first at c.in_ok-numbers.ensures in (
+      rw c.split_word.ensures.after (field_more c.args.limits c.loop-i.i c.loop-i.left.now c.loop-i.numbers _ (omega arith) (omega arith) e ∙ c.loop-i.invariant.0),
       simp length-set c.loop-i.invariant.1,
     )
 
-pub returns-then-is-empty : goal.returns-then-is-empty
-returns-then-is-empty g c =
-    let none = ap length (sym c.skip-blanks.ensures) ∙ true-eqb _ 0 c.if-is-empty.ensures in
+pub returns-then-is_empty : goal.returns-then-is_empty
+returns-then-is_empty g c =
+    let none = ap length (sym c.skip_blanks.ensures) ∙ true-eqb _ 0 c.if-is_empty.ensures in
     let same = fields_done c.args.limits c.loop-i.i c.loop-i.left.now c.loop-i.numbers (omega arith) (omega arith) none ∙ c.loop-i.invariant.0 in
     record { read = same; within = rw (← same) at (fields_under c.args.limits 1 c.args.text.now) }
 
-pub returns-else-is-empty : goal.returns-else-is-empty
-returns-else-is-empty g c =
-    let some = false-eqb _ 0 c.if-is-empty.ensures in
-    record { read = fields_surplus c.args.limits c.loop-i.i c.loop-i.left.now _ (omega arith) (omega (arith, ap length c.skip-blanks.ensures)) ∙ c.loop-i.invariant.0; within = tt }
+pub returns-else-is_empty : goal.returns-else-is_empty
+returns-else-is_empty g c =
+    let some = false-eqb _ 0 c.if-is_empty.ensures in
+    record { read = fields_surplus c.args.limits c.loop-i.i c.loop-i.left.now _ (omega arith) (omega (arith, ap length c.skip_blanks.ensures)) ∙ c.loop-i.invariant.0; within = tt }

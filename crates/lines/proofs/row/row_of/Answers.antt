@@ -4,7 +4,7 @@ use Rattle.lines.proofs.row.row_of.Goals as goal
 
 pub loop-i-preserved : goal.loop-i-preserved
 loop-i-preserved c =
-    let bytes = c.to-be-bytes.ensures in (
+    let bytes = c.to_be_bytes.ensures in (
       bytes_more c.args.steps c.loop-i.row c.loop-i.i _ _ (omega arith) (omega arith) (ap (λ l. get_or l 0 0) bytes) (ap (λ l. get_or l 1 0) bytes) ∙ c.loop-i.invariant.0,
       simp length-set c.loop-i.invariant.1,
     )

@@ -4,7 +4,7 @@ use Rattle.lines.proofs.row.steps_of.Goals as goal
 
 pub loop-i-preserved : goal.loop-i-preserved
 loop-i-preserved c = (
-  increment_more c.args.row.now c.loop-i.steps c.loop-i.i _ (omega arith) (omega arith) c.from-be-bytes.ensures ∙ c.loop-i.invariant.0,
+  increment_more c.args.row.now c.loop-i.steps c.loop-i.i _ (omega arith) (omega arith) c.from_be_bytes.ensures ∙ c.loop-i.invariant.0,
   simp length-set c.loop-i.invariant.1,
 )
 

@@ -4,8 +4,8 @@ use Rattle.lines.specs.Words.{skip}
 use Rattle.lines.proofs.Cuts.{skip_on, skip_stops}
 use Rattle.lines.proofs.words.skip_blanks.Goals as goal
 
-pub returns-then-not-is-blank : goal.returns-then-not-is-blank
-returns-then-not-is-blank c = search (rules, skip_stops, take_rest)
+pub returns-then-not-is_blank : goal.returns-then-not-is_blank
+returns-then-not-is_blank c = search (rules, skip_stops, take_rest)
 
 pub loop-at-preserved : goal.loop-at-preserved
 loop-at-preserved c = search (rules, skip_on)

@@ -6,12 +6,12 @@ use Rattle.listings.specs.Listed.{record_line}
 use Rattle.listings.proofs.Lines.{up_to_more}
 use Rattle.listings.proofs.list.section_lines.Goals as goal
 
-pub returns-in-err-push-line : goal.returns-in-err-push-line
-returns-in-err-push-line c = let p = err_from_is_err_and c.from-residual-in-err-push-line.result c.from-residual-in-err-push-line.ensures.1 in rw p.1 tt
+pub returns-in_err-push_line : goal.returns-in_err-push_line
+returns-in_err-push_line c = let p = err_from_is_err_and c.from-residual-in_err-push_line.result c.from-residual-in_err-push_line.ensures.1 in rw p.1 tt
 
 pub loop-i-preserved : goal.loop-i-preserved
 loop-i-preserved c =
-    up_to_more (record_line c.args.section (lent c.args.reader.now)) c.loop-i.i _ _ _ c.loop-i.invariant (c.as-str.ensures.value ∙ c.in-ok-line.ensures) c.in-ok-push-line.ensures
+    up_to_more (record_line c.args.section (lent c.args.reader.now)) c.loop-i.i _ _ _ c.loop-i.invariant (c.as_str.ensures.value ∙ c.in_ok-line.ensures) c.in_ok-push_line.ensures
 
 pub returns : goal.returns
 returns c =

@@ -5,17 +5,17 @@ use Rattle.sale_parts.specs.State.{state_of}
 use Rattle.orders.proofs.Raised.{still_held, still_at, moved, raise_obeyed}
 use Rattle.orders.proofs.raise.move_shares.Goals as goal
 
-pub take-out-requires : goal.take-out-requires
-take-out-requires g c =
+pub take_out-requires : goal.take_out-requires
+take_out-requires g c =
     let a = c.args in
     let xs = g.B.StepBook.steps a.sale.now.book in
     let size = g.B.StepBook.size a.sale.now.book in
     let ys = g.B.StepBook.steps c.put.new.self in
     let new = entered xs a.seat a.step.bid.market a.discount a.stamp a.shares in
-    let reply = c.in-ok-entered.ensures.reply in
+    let reply = c.in_ok-entered.ensures.reply in
     record {
-      step = still_at size xs ys a.number c.in-ok-entered.entered a.step new c.requires.step c.requires.held reply c.put.ensures.after;
-      held = still_held size xs ys a.number c.in-ok-entered.entered a.step new c.requires.step c.requires.held reply c.put.ensures.after;
+      step = still_at size xs ys a.number c.in_ok-entered.entered a.step new c.requires.step c.requires.held reply c.put.ensures.after;
+      held = still_held size xs ys a.number c.in_ok-entered.entered a.step new c.requires.step c.requires.held reply c.put.ensures.after;
       enough = c.requires.enough;
     }
 
@@ -25,8 +25,8 @@ returns g c =
     let s = state_of g.S.PhaseSheet g.B.StepBook a.sale.now in
     let ys = g.B.StepBook.steps c.put.new.self in
     let new = entered s.steps a.seat a.step.bid.market a.discount a.stamp a.shares in
-    let reply = c.in-ok-entered.ensures.reply in
-    let k = put_accepted s.size s.steps new c.in-ok-entered.entered reply in
-    let steps = moved s.size s.steps ys a.number c.in-ok-entered.entered a.step new c.requires.step c.requires.held reply c.put.ensures.after a.shares _ c.take-out.ensures.steps in
-    raise_obeyed s a.seat a.number a.shares a.discount a.stamp c.in-ok-entered.entered _ a.step _ c.requires.tested k.1 k.2 c.requires.step c.requires.own_val steps
-    (c.take-out.ensures.size ∙ c.put.ensures.size)
+    let reply = c.in_ok-entered.ensures.reply in
+    let k = put_accepted s.size s.steps new c.in_ok-entered.entered reply in
+    let steps = moved s.size s.steps ys a.number c.in_ok-entered.entered a.step new c.requires.step c.requires.held reply c.put.ensures.after a.shares _ c.take_out.ensures.steps in
+    raise_obeyed s a.seat a.number a.shares a.discount a.stamp c.in_ok-entered.entered _ a.step _ c.requires.tested k.1 k.2 c.requires.step c.requires.own_val steps
+    (c.take_out.ensures.size ∙ c.put.ensures.size)

@@ -5,4 +5,4 @@ use Rattle.records.proofs.codec.encode_opening.Goals as goal
 
 pub returns : goal.returns
 returns c =
-    (search rules, keeps _ (opening c.args.row.now) (omega arith) (ap (λ row. 1 ∷ 0 ∷ row) (append-nil _ ∙ c.copy-from-slice.ensures.after)))
+    (search rules, keeps _ (opening c.args.row.now) (omega arith) (ap (λ row. 1 ∷ 0 ∷ row) (append-nil _ ∙ c.copy_from_slice.ensures.after)))

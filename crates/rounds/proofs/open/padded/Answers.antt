@@ -7,7 +7,7 @@ use Rattle.rounds.proofs.open.padded.Goals as goal
 pub loop-place-preserved : goal.loop-place-preserved
 loop-place-preserved c = (
   simp length-set c.loop-place.invariant.0,
-  pad_more c.args.row.now c.loop-place.increments c.loop-place.place _ (omega arith) c.requires c.increment-of.ensures c.loop-place.invariant.1,
+  pad_more c.args.row.now c.loop-place.increments c.loop-place.place _ (omega arith) c.requires c.increment_of.ensures c.loop-place.invariant.1,
 )
 
 pub returns : goal.returns

@@ -6,8 +6,8 @@ use Rattle.runs.specs.Calls.{call_of, calls_of}
 use Rattle.runs.proofs.Runs.{reply_for_each, one_reply_more, one_call_more}
 use Rattle.runs.proofs.run.run_into.Goals as goal
 
-pub push-reserved-requires : goal.push-reserved-requires
-push-reserved-requires g c =
+pub push_reserved-requires : goal.push_reserved-requires
+push_reserved-requires g c =
     let s = state_of g.S.PhaseSheet g.B.StepBook c.args.sale.now in
     let i = c.loop-call.call-index in
     let f = call_of g.T.PhaseSheet g.C.StepBook in
@@ -21,9 +21,9 @@ loop-call-preserved g c =
     let i = c.loop-call.call-index in
     let x = c.call-item.result in
     let o = c.perform-reply.ensures.obeys in (
-      one_reply_more f xs i x c.loop-call-test.true c.call-item.is s _ _ _ c.loop-call.invariant.1 o _ _ c.loop-call.invariant.0 c.push-reserved.ensures.items,
+      one_reply_more f xs i x c.loop-call-test.true c.call-item.is s _ _ _ c.loop-call.invariant.1 o _ _ c.loop-call.invariant.0 c.push_reserved.ensures.items,
       one_call_more f xs i x c.loop-call-test.true c.call-item.is s _ _ _ c.loop-call.invariant.1 o,
-      omega (arith, c.push-reserved.ensures.capacity, c.loop-call.invariant.2),
+      omega (arith, c.push_reserved.ensures.capacity, c.loop-call.invariant.2),
     )
 
 pub returns : goal.returns

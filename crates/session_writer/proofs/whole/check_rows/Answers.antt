@@ -16,7 +16,7 @@ loop-i-preserved c =
     let vs = map value_of c.args.events.now in
     let n = length-map c.args.events.now value_of in
     let here = get_or-map value_of c.args.events.now c.loop-i.i _ close c.loop-i-test.true in
-    let b = c.in-default.ensures in
+    let b = c.in_default.ensures in
     (rows_pass vs c.loop-i.i (omega arith) _ here b.0 c.loop-i.invariant.0, kept_more vs c.loop-i.i (omega arith) _ here _ b.0 b.1 c.loop-i.invariant.1)
 
 pub returns : goal.returns

@@ -6,12 +6,12 @@ use Rattle.session_writer.proofs.Layouts.{room}
 use Rattle.session_writer.proofs.Wholes.{room_refused, rows_decide}
 use Rattle.session_writer.proofs.whole.check_session.Goals as goal
 
-pub returns-in-err-check-room : goal.returns-in-err-check-room
-returns-in-err-check-room c =
+pub returns-in_err-check_room : goal.returns-in_err-check_room
+returns-in_err-check_room c =
     let p = err_from_is_err_and c.from-residual.result c.from-residual.ensures.1 in
-    rw (p.1, p.2) (record { value = room_refused _ _ _ (map value_of c.args.events.now) (length-map _ value_of) _ c.in-err-check-room.ensures; room = tt; kept = tt })
+    rw (p.1, p.2) (record { value = room_refused _ _ _ (map value_of c.args.events.now) (length-map _ value_of) _ c.in_err-check_room.ensures; room = tt; kept = tt })
 
 pub returns : goal.returns
 returns c =
-    let h = c.in-ok-check-room.ensures in
-    record { value = rows_decide _ _ _ (map value_of c.args.events.now) (length-map _ value_of) _ h c.check-rows.ensures.value; room = IfOk-weaker _ _ _ (λ _ _. room _ _ _ h) c.check-rows.ensures.kept; kept = c.check-rows.ensures.kept }
+    let h = c.in_ok-check_room.ensures in
+    record { value = rows_decide _ _ _ (map value_of c.args.events.now) (length-map _ value_of) _ h c.check_rows.ensures.value; room = IfOk-weaker _ _ _ (λ _ _. room _ _ _ h) c.check_rows.ensures.kept; kept = c.check_rows.ensures.kept }

@@ -6,7 +6,7 @@ use Rattle.session_writer.proofs.whole.write_deposits.Goals as goal
 
 pub loop-i-preserved : goal.loop-i-preserved
 loop-i-preserved c =
-    part_more (bytes_of 4) 4 0 c.args.memory.now 16 _ (even_deposits _) c.requires c.loop-i.i c.loop-i-test.true _ _ _ c.loop-i.invariant (c.copy-from-slice.ensures.after ∙ c.bytes-u32.ensures) (omega arith)
+    part_more (bytes_of 4) 4 0 c.args.memory.now 16 _ (even_deposits _) c.requires c.loop-i.i c.loop-i-test.true _ _ _ c.loop-i.invariant (c.copy_from_slice.ensures.after ∙ c.bytes_u32.ensures) (omega arith)
 
 pub returns : goal.returns
 returns c = part_all (bytes_of 4) 4 0 c.args.memory.now 16 _ (even_deposits _) c.requires c.loop-i.i c.loop-i-test.false _ c.loop-i.invariant

@@ -20,7 +20,7 @@ loop-i-preserved c =
     let n = length-map c.args.events.now value_of in
     let room : c.args.start + 16 * length vs ≤ length c.args.memory.now = omega (arith, c.requires.room) in
     part_more encoded 16 close c.args.memory.now c.args.start vs (even_events vs c.requires.kept) room c.loop-i.i (omega arith) _ _ _ c.loop-i.invariant
-    (c.copy-from-slice.ensures.after ∙ c.in-Ok.ensures.1.bytes ∙ ap encoded (sym (get_or-map value_of _ _ _ close c.loop-i-test.true)))
+    (c.copy_from_slice.ensures.after ∙ c.in-Ok.ensures.1.bytes ∙ ap encoded (sym (get_or-map value_of _ _ _ close c.loop-i-test.true)))
     (omega arith)
 
 pub returns : goal.returns

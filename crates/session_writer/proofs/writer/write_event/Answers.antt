@@ -7,5 +7,5 @@ pub returns-in-Ok : goal.returns-in-Ok
 returns-in-Ok c =
     let e = value_of c.args.event in
     let b = c.in-Ok.ensures in
-    let p = event_is_put _ _ c.args.number _ e c.requires.place b.0 (subst (λ (z : List ℕ). Keeps z e) (sym c.copy-from-slice.ensures.after) b.1) in
+    let p = event_is_put _ _ c.args.number _ e c.requires.place b.0 (subst (λ (z : List ℕ). Keeps z e) (sym c.copy_from_slice.ensures.after) b.1) in
     record { wrote = p.0; reads = p.1 }

@@ -1,8 +1,8 @@
 use Rattle.std.proofs.Common.{◌+◌, arith, rules}
 use Rattle.sheets.proofs.tests.all_markets.Goals as goal
 
-pub overflow-add-sum : goal.overflow-add-sum
-overflow-add-sum g c =
+pub overflow_add-sum : goal.overflow_add-sum
+overflow_add-sum g c =
     let law = g.met.S.PhaseSheet.lawful c.args.sheet.now in
     let light = law.light (c.loop-place.place + 1) in
     let few = law.few_markets in

@@ -3,11 +3,11 @@ use Rattle.starts.proofs.Carried.{nothing_left}
 use Rattle.sale_parts.specs.State.{state_of}
 use Rattle.starts.proofs.changeover.bought_left.Goals as goal
 
-pub overflow-mul-spent : goal.overflow-mul-spent
-overflow-mul-spent g c =
+pub overflow_mul-spent : goal.overflow_mul-spent
+overflow_mul-spent g c =
     let light = (g.met.S.PhaseSheet.lawful c.args.sale.now.sheet).light 1 in
     let w : c.weight.result ≤ 400 = omega (arith, c.weight.ensures, light) in
-    omega (arith, mul-le-mul w c.shares-won-by.ensures.most)
+    omega (arith, mul-le-mul w c.shares_won_by.ensures.most)
 
 pub returns-in-None : goal.returns-in-None
 returns-in-None g c =

@@ -10,7 +10,7 @@ use Rattle.starts.proofs.changeover.seats_left.Goals as goal
 pub loop-place-preserved : goal.loop-place-preserved
 loop-place-preserved g c =
     carried_more (state_of g.S.PhaseSheet g.B.StepBook c.args.sale.now) (seated c.loop-place.seats) c.loop-place.place _
-    (omega (arith, c.count-place-end.ensures.count)) (omega (arith, c.count-place-end.ensures.most)) c.bought_left.ensures c.loop-place.invariant _ c.open-account.ensures.after
+    (omega (arith, c.count-place-end.ensures.count)) (omega (arith, c.count-place-end.ensures.most)) c.bought_left.ensures c.loop-place.invariant _ c.open_account.ensures.after
 
 pub returns : goal.returns
 returns g c =

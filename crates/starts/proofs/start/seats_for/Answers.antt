@@ -4,4 +4,4 @@ use Rattle.rules.specs.Start.{dollars}
 use Rattle.starts.proofs.start.seats_for.Goals as goal
 
 pub returns : goal.returns
-returns c = c.of-deposits.ensures ∙ ap (map dollars) (take_all 24 c.args.deposits.now c.requires)
+returns c = c.of_deposits.ensures ∙ ap (map dollars) (take_all 24 c.args.deposits.now c.requires)

@@ -1,10 +1,10 @@
 use Rattle.std.proofs.Common.{◌≡◌, ◌<◌, length, arith}
 use Rattle.sums.proofs.Sums.{first_part, sum_more, sum_all, most_more, most_all, none_missing}
 use Rattle.sums.proofs.measure.sum_over.Goals as goal
-use Rattle.sums.proofs.measure.sum_over.Goals.{in-Ok, in-default}
+use Rattle.sums.proofs.measure.sum_over.Goals.{in-Ok, in_default}
 
-pub overflow-add-sum : goal.overflow-add-sum
-overflow-add-sum g c =
+pub overflow_add-sum : goal.overflow_add-sum
+overflow_add-sum g c =
     let b = c.args.book.now in
     let law = g.B.StepBook.lawful b in
     omega (arith, first_part (length (g.B.StepBook.steps b)) (g.B.StepBook.size b) c.count-count.ensures, law.small, law.room)
@@ -21,7 +21,7 @@ loop-place-preserved g c =
         most_more l.place _ _ _ l.invariant.1 w.amount-sum.ensures.most,
         omega arith,
       )
-      | in-default w ↦ absurd (none_missing xs l.place within w.in-default.ensures.0)
+      | in_default w ↦ absurd (none_missing xs l.place within w.in_default.ensures.0)
     ]
 
 pub returns : goal.returns

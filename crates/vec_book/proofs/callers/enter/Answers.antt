@@ -5,9 +5,9 @@ use Rattle.vec_book.proofs.callers.enter.Goals as goal
 pub returns : goal.returns
 returns g c =
     let a = c.args in
-    let put = c.in-ok-number.ensures in
+    let put = c.in_ok-number.ensures in
     let steps = g.B.StepBook.steps a.book.now in
     record {
       after = put.after;
-      reply = read_back (λ _. Unit {0}) (g.B.StepBook.size a.book.now) steps (g.B.StepBook.steps c.put.new.self) (entered steps a.seat a.market 100 7 50) c.in-ok-number.number c.read.result put.reply put.after c.read.ensures;
+      reply = read_back (λ _. Unit {0}) (g.B.StepBook.size a.book.now) steps (g.B.StepBook.steps c.put.new.self) (entered steps a.seat a.market 100 7 50) c.in_ok-number.number c.read.result put.reply put.after c.read.ensures;
     }

@@ -4,8 +4,8 @@ use Rattle.steps.specs.declared.record.StepRecord.{StepRecord}
 use Rattle.books.proofs.Records.{next_sound, sound_push, beyond_set}
 use Rattle.books.proofs.flat.FlatBook.append.Goals as goal
 
-pub invariant-of-self : goal.invariant-of-self
-invariant-of-self c =
+pub invariant_of-self : goal.invariant_of-self
+invariant_of-self c =
     let b = c.args.self.now in
     let list = c.args.self.now.records.now in
     let e = length-take-le b.count list b.room in

@@ -5,8 +5,8 @@ use Rattle.steps.specs.Rule.{no_step}
 use Rattle.books.proofs.Records.{held_taken, reshared_sound, sound_set, beyond_set}
 use Rattle.books.proofs.flat.FlatBook.reshare.Goals as goal
 
-pub invariant-of-self : goal.invariant-of-self
-invariant-of-self c =
+pub invariant_of-self : goal.invariant_of-self
+invariant_of-self c =
     let a = c.args in
     let b = c.args.self.now in
     let list = c.args.self.now.records.now in

@@ -8,12 +8,12 @@ use Rattle.session_texts.specs.Drafts.{records_of}
 use Rattle.session_texts.proofs.Files.{size_found}
 use Rattle.session_texts.proofs.draft.Draft.file.Goals as goal
 
-pub file-of-requires : goal.file-of-requires
-file-of-requires c =
-    let ds : c.deref-3.result.now ≡ deposits_in (records_of c.args.self.now) = c.deref-3.ensures.value ∙ c.in-ok-deposits.ensures ∙ ap (λ xs. deposits_in (map record_of xs)) c.deref.ensures.value in
-    let es : map value_of c.deref-4.result.now ≡ events_in (records_of c.args.self.now) = ap (λ xs. map value_of xs) c.deref-4.ensures.value ∙ c.in-ok-events.ensures.value ∙ ap (λ xs. events_in (map record_of xs)) c.deref-2.ensures.value in
+pub file_of-requires : goal.file_of-requires
+file_of-requires c =
+    let ds : c.deref-3.result.now ≡ deposits_in (records_of c.args.self.now) = c.deref-3.ensures.value ∙ c.in_ok-deposits.ensures ∙ ap (λ xs. deposits_in (map record_of xs)) c.deref.ensures.value in
+    let es : map value_of c.deref-4.result.now ≡ events_in (records_of c.args.self.now) = ap (λ xs. map value_of xs) c.deref-4.ensures.value ∙ c.in_ok-events.ensures.value ∙ ap (λ xs. events_in (map record_of xs)) c.deref-2.ensures.value in
     record {
       size = size_found (records_of c.args.self.now) _ _ _ c.args.self.now.sized ds es;
       small = c.args.self.now.small;
-      rows = subst (λ (xs : List Event). All (λ e. row_fits (value_of e) ≡ true) xs) (sym c.deref-4.ensures.value) c.in-ok-events.ensures.rows;
+      rows = subst (λ (xs : List Event). All (λ e. row_fits (value_of e) ≡ true) xs) (sym c.deref-4.ensures.value) c.in_ok-events.ensures.rows;
     }
