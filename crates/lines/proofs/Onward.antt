@@ -48,7 +48,7 @@ number_under : (most n : ℕ) (w : List ℕ) → IfOk (number_in most n w) (λ v
 number_under most n [] = tt
 number_under most n (b ∷ bs) = by (all_ascii_digits (b ∷ bs)) (leb (digits_value 10 (b ∷ bs)) most) refl
   where
-    by : (d t : Bool) → leb (digits_value 10 (b ∷ bs)) most ≡ t → IfOk {Y = LineFault} (cond d (cond t (Ok (digits_value 10 (b ∷ bs))) (Err (TooLarge n most))) (Err (NotANumber n))) (λ v. v ≤ most)
+    by : (d t : Bool) → leb (digits_value 10 (b ∷ bs)) most ≡ t → IfOk {E = LineFault} (cond d (cond t (Ok (digits_value 10 (b ∷ bs))) (Err (TooLarge n most))) (Err (NotANumber n))) (λ v. v ≤ most)
     by true true e = leb-true _ _ e
     by true false e = tt
     by false t e = tt

@@ -72,14 +72,14 @@ module _ (ms ys : List ℕ) (n at : ℕ) where
   deposit_is_put d h small y =
       let f = found Deposits ms n at (sym h) in
       let bs = bytes_of 4 d in
-      let same : written ms at bs ≡ put_mid at (at + 4 - at) ms ys = kept.part-written ms ys bs at (at + 4 - at) y (omega arith) in
+      let same : written ms at bs ≡ put_mid at (at + 4 - at) ms ys = kept.part_written ms ys bs at (at + 4 - at) y (omega arith) in
       let in_file : DepositIn ms (written ms at bs) n d = record { here = ap (λ r. next r (λ z. Ok (be 4 z 0))) (record_back Deposits ms bs n at f refl) ∙ ap Ok (number_back 4 d small); only = only_record Deposits ms bs n at f refl } in
       (ap (λ r. next r (λ z. Ok (written ms z bs))) (sym h) ∙ ap Ok same, subst (λ (new : List ℕ). DepositIn ms new n d) same in_file)
 
   pub event_is_put : (e : EventValue) → Ok at ≡ located Events ms n → row_fits e ≡ true → Keeps ys e → (event_put ms n e ≡ Ok (put_mid at (at + 16 - at) ms ys)) × EventIn ms (put_mid at (at + 16 - at) ms ys) n e
   event_is_put e h row y =
       let f = found Events ms n at (sym h) in
-      let same : written ms at (encoded e) ≡ put_mid at (at + 16 - at) ms ys = kept.part-written ms ys (encoded e) at (at + 16 - at) y.bytes (omega (arith, y.long, ap length y.bytes)) in
-      let mine : written ms at ys ≡ put_mid at (at + 16 - at) ms ys = kept.part-written ms ys ys at (at + 16 - at) refl (omega (arith, y.long)) in
+      let same : written ms at (encoded e) ≡ put_mid at (at + 16 - at) ms ys = kept.part_written ms ys (encoded e) at (at + 16 - at) y.bytes (omega (arith, y.long, ap length y.bytes)) in
+      let mine : written ms at ys ≡ put_mid at (at + 16 - at) ms ys = kept.part_written ms ys ys at (at + 16 - at) refl (omega (arith, y.long)) in
       let in_file : EventIn ms (written ms at ys) n e = record { here = ap (λ r. next r (λ z. of_number n (decoded z))) (record_back Events ms ys n at f y.long) ∙ ap (of_number n) y.back; only = only_record Events ms ys n at f y.long } in
       (ap (λ r. next (next r (λ z. Ok (written ms z (encoded e)))) (λ new. cond (row_fits e) (Ok new) (Err (Record n RowLength)))) (sym h) ∙ rw (row, same), subst (λ (new : List ℕ). EventIn ms new n e) mine in_file)

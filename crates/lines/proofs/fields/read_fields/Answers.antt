@@ -10,7 +10,7 @@ loop-i-init g c = (after_none (fields c.args.limits 1 c.args.text.now), length-r
 
 pub returns-in_err-numbers : goal.returns-in_err-numbers
 returns-in_err-numbers g c =
-    let p = err_from_is_err_and c.from-residual.result c.from-residual.ensures.1 in
+    let p = err_from_is_err_and c.from_residual.result c.from_residual.ensures.1 in
     let e = rw c.split_word.ensures.first at c.in_err-numbers.ensures in
     let same = field_refused c.args.limits c.loop-i.i c.loop-i.left.now _ _ (omega arith) e ∙ c.loop-i.invariant.0 in
     rw (p.1, p.2) (record { read = same; within = tt })

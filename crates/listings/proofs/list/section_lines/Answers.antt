@@ -7,7 +7,7 @@ use Rattle.listings.proofs.Lines.{up_to_more}
 use Rattle.listings.proofs.list.section_lines.Goals as goal
 
 pub returns-in_err-push_line : goal.returns-in_err-push_line
-returns-in_err-push_line c = let p = err_from_is_err_and c.from-residual-in_err-push_line.result c.from-residual-in_err-push_line.ensures.1 in rw p.1 tt
+returns-in_err-push_line c = let p = err_from_is_err_and c.from_residual-in_err-push_line.result c.from_residual-in_err-push_line.ensures.1 in rw p.1 tt
 
 pub loop-i-preserved : goal.loop-i-preserved
 loop-i-preserved c =

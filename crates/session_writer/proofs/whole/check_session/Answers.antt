@@ -8,7 +8,7 @@ use Rattle.session_writer.proofs.whole.check_session.Goals as goal
 
 pub returns-in_err-check_room : goal.returns-in_err-check_room
 returns-in_err-check_room c =
-    let p = err_from_is_err_and c.from-residual.result c.from-residual.ensures.1 in
+    let p = err_from_is_err_and c.from_residual.result c.from_residual.ensures.1 in
     rw (p.1, p.2) (record { value = room_refused _ _ _ (map value_of c.args.events.now) (length-map _ value_of) _ c.in_err-check_room.ensures; room = tt; kept = tt })
 
 pub returns : goal.returns
