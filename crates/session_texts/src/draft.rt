@@ -1,7 +1,7 @@
 //! The records that a text has told so far.
 ghost use Rattle.std.specs.Prelude.{◌≡◌, ◌≤◌, map};
 ghost use Rattle.lines.specs.Record.{record_of};
-ghost use Rattle.session_texts.specs.Records.{file_size, has_event};
+ghost use Rattle.session_texts.specs.Records.{file_size, has_event as holds_event};
 
 use lines::Line;
 
@@ -13,5 +13,5 @@ pub(crate) struct Draft {
     pub(crate) has_event: bool,
     ghost sized: { size ≡ file_size (map record_of lines.items) },
     ghost small: { size ≤ 65536 },
-    ghost told: { has_event ≡ has_event (map record_of lines.items) },
+    ghost told: { has_event ≡ holds_event (map record_of lines.items) },
 }
