@@ -4,8 +4,7 @@ use Rattle.std.proofs.lemmas.List.{get_or_past}
 use Rattle.std.proofs.lemmas.Bool.{cond-true, cond-false, lt-ltb}
 use Rattle.std.proofs.lemmas.Bool.Decides.{nat_tests}
 use Rattle.rules.specs.declared.account.Account.{Account}
-use Rattle.rules.specs.State.{nobody}
-use Rattle.rules.specs.Tests.{outside}
+use Rattle.rules.specs.Sales.{nobody, outside}
 use Rattle.accounts.specs.Accounts.{opened_with, with_opened, cut_by, with_cut}
 
 -- there is room for one more below 24

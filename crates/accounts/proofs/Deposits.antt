@@ -2,7 +2,7 @@
 use Rattle.std.proofs.Common.{◌≡◌, ℕ, ◌+◌, ◌/◌, ◌<◌, List, [], ◌∷◌, ◌++◌, map, length, get_or, take, sym, ap, ◌∙◌, arith}
 use Rattle.std.proofs.lemmas.List.{length-map, length-take-le, map_more}
 use Rattle.rules.specs.declared.account.Account.{Account}
-use Rattle.rules.specs.Start.{dollars}
+use Rattle.rules.specs.Sales.{dollars}
 use Rattle.accounts.specs.Accounts.{opened_with, with_opened}
 use Rattle.accounts.proofs.Accounts.{opens_below}
 

@@ -1,7 +1,7 @@
 -- The accounts that a table holds, as a list.
 use Rattle.std.proofs.Common.{◌≡◌, ℕ, ◌+◌, ◌<◌, ◌≤◌, List, [], ◌∷◌, ◌++◌, map, length, get_or, take, set, sym, ap, ◌∙◌, arith}
 use Rattle.std.proofs.lemmas.List.{get_or-take, get_or-map, map-set, take-map}
-use Rattle.rules.specs.State.{nobody}
+use Rattle.rules.specs.Sales.{nobody}
 use Rattle.accounts.specs.declared.account.SeatAccount.{SeatAccount}
 use Rattle.accounts.specs.declared.seats.Seats.{Seats}
 use Rattle.accounts.specs.Accounts.{cut_by}

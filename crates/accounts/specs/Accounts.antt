@@ -1,8 +1,7 @@
 -- What opening and cutting an account make of a list of accounts.
 use Rattle.std.specs.Prelude.{ℕ, ◌-◌, cond, List, [], ◌∷◌, ◌++◌, length, nat_lt, slice_index_or, slice_set}
 use Rattle.rules.specs.declared.account.Account.{Account}
-use Rattle.rules.specs.State.{nobody}
-use Rattle.rules.specs.Tests.{outside}
+use Rattle.rules.specs.Sales.{nobody, outside}
 
 -- an account of which nothing is used yet
 abbrev pub opened_with : ℕ → Account

@@ -1,8 +1,6 @@
 //! The calls of the table of accounts.
 ghost use Rattle.std.specs.Prelude.{◌≡◌, ◌-◌, ◌<◌, ◌≤◌, true, false, [], ◌∷◌, ◌++◌, map, length, get_or, take, MatchOption, nat_lt, slice_index_or, slice_set};
-ghost use Rattle.rules.specs.State.{nobody};
-ghost use Rattle.rules.specs.Start.{dollars};
-ghost use Rattle.rules.specs.Tests.{outside};
+ghost use Rattle.rules.specs.Sales.{nobody, dollars, outside};
 ghost use Rattle.accounts.specs.Accounts.{with_opened, with_cut, cut_by};
 ghost use Rattle.accounts.specs.Seated.{seated, plain_of};
 

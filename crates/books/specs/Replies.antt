@@ -1,5 +1,5 @@
 -- What each call of a book answers, and which steps the book has after it.
-use Rattle.std.specs.Prelude.{◌≡◌, ℕ, ◌+◌, ◌-◌, ◌<◌, ◌≤◌, Bool, true, false, cond, ◌&&◌, List, [], ◌∷◌, ◌++◌, length, set, Some, None, Ok, Err, Option, Result, ◌==◌, nat_le, slice_index_or, slice_set}
+use Rattle.std.specs.Prelude.{◌≡◌, ℕ, ◌+◌, ◌-◌, ◌<◌, ◌≤◌, Bool, true, false, cond, ◌&&◌, List, [], ◌∷◌, ◌++◌, length, Some, None, Ok, Err, Option, Result, ◌==◌, nat_le, slice_index_or, slice_set}
 use Rattle.ranks.specs.Order.{FirstBehind}
 use Rattle.steps.specs.declared.record.StepRecord.{StepRecord}
 use Rattle.steps.specs.declared.step.Step.{Step}

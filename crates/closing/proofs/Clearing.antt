@@ -2,7 +2,7 @@
 use Rattle.std.proofs.Common.{◌≡◌, ℕ, ◌-◌, ◌≤◌, min, Bool, true, false, cond, ◌&&◌, eqb, ltb, List, [], ◌∷◌, map, Some, None, Option, sym, refl, ap, ◌∙◌, inl, inr, arith}
 use Rattle.steps.specs.declared.record.StepRecord.{StepRecord}
 use Rattle.rules.specs.Lists.{In}
-use Rattle.rules.specs.Close.{wins, hands, lower, least}
+use Rattle.rules.specs.Books.{wins, hands, lower, least}
 
 abbrev pub lowest : (StepRecord → Bool) → List StepRecord → Option ℕ
 lowest test [] = None

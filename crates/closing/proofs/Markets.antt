@@ -6,9 +6,7 @@ use Rattle.std.proofs.lemmas.Bool.Decides.{nat_tests}
 use Rattle.steps.specs.declared.record.StepRecord.{StepRecord}
 use Rattle.books.specs.Lawful.{SoundBelow}
 use Rattle.rules.specs.Lists.{listed}
-use Rattle.rules.specs.Rank.{ahead, front}
-use Rattle.rules.specs.Steps.{bid_of, standing_of}
-use Rattle.rules.specs.Close.{hands, settled, least}
+use Rattle.rules.specs.Books.{ahead, front, bid_of, standing_of, hands, settled, least}
 use Rattle.rules.proofs.Totals.{map_same, map_map, total_map, total_same, listed_at}
 use Rattle.closing.specs.HandOut.{handed}
 use Rattle.closing.proofs.Places.{sound_kept}

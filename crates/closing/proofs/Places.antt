@@ -5,7 +5,7 @@ use Rattle.steps.specs.declared.record.StepRecord.{StepRecord}
 use Rattle.steps.specs.Rule.{step_ok, offer_ok, shares_ok, no_step}
 use Rattle.books.specs.Lawful.{SoundBelow}
 use Rattle.rules.specs.Lists.{total, In}
-use Rattle.rules.specs.Steps.{bid_of}
+use Rattle.rules.specs.Books.{bid_of}
 use Rattle.rules.proofs.Totals.{map_same, total_same}
 use Rattle.rules.proofs.Ranks.{Numbered, numbers_from}
 

@@ -9,8 +9,8 @@ use Rattle.books.specs.Replies.{at, held}
 use Rattle.books.proofs.After.{held_true}
 use Rattle.books.specs.Lawful.{SoundBelow}
 use Rattle.rules.specs.Lists.{total, In}
-use Rattle.rules.specs.Steps.{bid_of, losing-of}
-use Rattle.rules.specs.Close.{rejects}
+use Rattle.rules.specs.Books.{bid_of, rejects}
+use Rattle.rules.specs.Parts.{losing_of}
 use Rattle.rules.proofs.Totals.{map_same, total_same, total_none}
 use Rattle.rules.proofs.Ranks.{numbers_from}
 use Rattle.closing.proofs.Places.{sound_numbered, sound_number, sound_kept, each, map_one, total_one, total_most}

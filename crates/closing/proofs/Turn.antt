@@ -6,7 +6,7 @@ use Rattle.steps.specs.declared.record.StepRecord.{StepRecord}
 use Rattle.books.specs.Replies.{at, NextReply}
 use Rattle.books.specs.Lawful.{SoundBelow}
 use Rattle.rules.specs.Lists.{In}
-use Rattle.rules.specs.Close.{wins, hands, settled, least}
+use Rattle.rules.specs.Books.{wins, hands, settled, least}
 use Rattle.rules.proofs.Totals.{map_same, total_none}
 use Rattle.closing.specs.HandOut.{handed, gets, awarded, cleared}
 use Rattle.closing.proofs.Clearing.{lowest, lowest_same, lowest_none, clearing_lowest}

@@ -10,9 +10,7 @@ use Rattle.steps.specs.Rule.{no_step}
 use Rattle.books.specs.Replies.{at}
 use Rattle.books.specs.Lawful.{SoundBelow}
 use Rattle.rules.specs.Lists.{total, In}
-use Rattle.rules.specs.Rank.{ahead, front}
-use Rattle.rules.specs.Steps.{bid_of, standing_of}
-use Rattle.rules.specs.Close.{wins, hands}
+use Rattle.rules.specs.Books.{ahead, front, bid_of, standing_of, wins, hands}
 use Rattle.rules.proofs.Totals.{total_same, in_at}
 use Rattle.rules.proofs.Ranks.{irreflexive, total_order, discounts_fall, unique}
 use Rattle.closing.specs.HandOut.{handed, gets, awarded}

@@ -2,7 +2,7 @@
 use Rattle.std.specs.Prelude.{ℕ, ◌-◌, min, Bool, cond, List, map, Some, Option, nat_lt}
 use Rattle.steps.specs.declared.record.Bid.{Bid}
 use Rattle.steps.specs.declared.record.StepRecord.{StepRecord}
-use Rattle.rules.specs.Close.{hands}
+use Rattle.rules.specs.Books.{hands}
 
 -- the lots handed out to the steps whose bids pass the test; the others are as they were
 abbrev pub handed : (Bid → Bool) → ℕ → List StepRecord → List StepRecord

@@ -2,7 +2,7 @@
 ghost use Rattle.std.specs.Prelude.{◌≡◌, ◌+◌, ◌-◌, ◌<◌, true, nat_eq, slice_set};
 ghost use Rattle.books.specs.Replies.{at, held};
 ghost use Rattle.rules.specs.Lists.{listed};
-ghost use Rattle.rules.specs.Close.{settled, least};
+ghost use Rattle.rules.specs.Books.{settled, least};
 ghost use Rattle.closing.specs.HandOut.{handed, gets, awarded, cleared};
 
 use crate::held::{next_of, reshare, step_of};

@@ -1,7 +1,7 @@
 //! Losing shares, rejected.
 ghost use Rattle.std.specs.Prelude.{◌≡◌, ◌-◌, true, map, slice_set};
 ghost use Rattle.books.specs.Replies.{at, held};
-ghost use Rattle.rules.specs.Close.{rejects};
+ghost use Rattle.rules.specs.Books.{rejects};
 
 use crate::held::{reshare, step_of};
 use books::StepBook;

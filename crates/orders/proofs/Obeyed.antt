@@ -5,9 +5,7 @@ use Rattle.steps.specs.declared.fault.BookFault.TheVariants.{Full}
 use Rattle.rules.specs.declared.answer.Answer.{Answer}
 use Rattle.rules.specs.declared.fault.SaleFault.{SaleFault}
 use Rattle.rules.specs.declared.fault.SaleFault.TheVariants.{Book}
-use Rattle.rules.specs.State.{State}
-use Rattle.rules.specs.Tests.{passed, unless}
-use Rattle.rules.specs.Sale.{Call, verdict, answer, done, by_verdict}
+use Rattle.rules.specs.Sales.{State, passed, unless, Call, verdict, answer, done, by_verdict}
 use Rattle.sale_parts.specs.State.{Obeys, PassesButFull}
 
 -- an accepted call answers and leaves what the rules say

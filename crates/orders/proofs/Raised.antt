@@ -7,9 +7,7 @@ use Rattle.steps.specs.Rule.{no_step}
 use Rattle.books.specs.Replies.{held, at, entered, put_reply, put_after}
 use Rattle.books.proofs.After.{put_accepted, held_true}
 use Rattle.rules.specs.declared.answer.Answer.TheVariants.{Told}
-use Rattle.rules.specs.State.{State, step_at}
-use Rattle.rules.specs.Raise.{without}
-use Rattle.rules.specs.Sale.{raise}
+use Rattle.rules.specs.Sales.{State, step_at, less, raise}
 use Rattle.sale_parts.specs.State.{Obeys, PassesButFull}
 use Rattle.orders.proofs.Obeyed.{obeys_put}
 
@@ -36,15 +34,15 @@ module _ (size : ℕ) (xs ys : List StepRecord) (number n : ℕ) (x new : StepRe
   still_at = is ∙ sym (get_or_append_left xs (new ∷ []) no_step (number - 1) inside) ∙ ap (λ zs. at zs number) (sym longer)
 
   -- both changes together
-  pub moved : (shares : ℕ) (zs : List StepRecord) → zs ≡ set ys (number - 1) (without shares x) → zs ≡ set xs (number - 1) (without shares (at xs number)) ++ new ∷ []
+  pub moved : (shares : ℕ) (zs : List StepRecord) → zs ≡ set ys (number - 1) (less shares x) → zs ≡ set xs (number - 1) (less shares (at xs number)) ++ new ∷ []
   moved shares zs e =
-      e ∙ ap (λ vs. set vs (number - 1) (without shares x)) longer ∙ set-append_left xs (new ∷ []) (number - 1) (without shares x) inside
-      ∙ ap (λ v. set xs (number - 1) (without shares v) ++ new ∷ []) is
+      e ∙ ap (λ vs. set vs (number - 1) (less shares x)) longer ∙ set-append_left xs (new ∷ []) (number - 1) (less shares x) inside
+      ∙ ap (λ v. set xs (number - 1) (less shares v) ++ new ∷ []) is
 
 -- the sale after the shares were moved is what the rules leave
 pub raise_obeyed : (s : State) (seat number shares discount stamp n size : ℕ) (x : StepRecord) (zs : List StepRecord) →
     PassesButFull s (raise seat number shares discount stamp) → (length s.steps ≡ s.size → ⊥) → n ≡ length s.steps + 1 → x ≡ step_at s number → x.bid.seat ≡ seat →
-    zs ≡ set s.steps (number - 1) (without shares (step_at s number)) ++ entered s.steps seat x.bid.market discount stamp shares ∷ [] → size ≡ s.size →
+    zs ≡ set s.steps (number - 1) (less shares (step_at s number)) ++ entered s.steps seat x.bid.market discount stamp shares ∷ [] → size ≡ s.size →
     Obeys s (raise seat number shares discount stamp) (Ok (Told n)) (record {
       figures = s.figures;
       size = size;

@@ -1,11 +1,11 @@
 //! A new step.
 ghost use Rattle.std.specs.Prelude.{◌≡◌, ◌≤◌, true, OnOk};
-ghost use Rattle.rules.specs.Sale.{enter};
-ghost use Rattle.rules.specs.Enter.{not-eligible};
+ghost use Rattle.rules.specs.Sales.{enter};
+ghost use Rattle.rules.specs.Parts.{not_eligible};
 ghost use Rattle.sale_parts.specs.State.{state_of, Does, TestedButFull, PassesButFull, offered};
 
 use books::StepBook;
-use rules::{Answer, SaleFault, SaleFaultFromBook};
+use rules::{Answer, SaleFault};
 use sale_parts::{SaleParts, outside};
 use sheets::PhaseSheet;
 use sums::standing_weight;
@@ -75,7 +75,7 @@ fn not_eligible<S: PhaseSheet + Drop, B: StepBook + Drop>(
     shares: u8,
 ) -> bool
     requires { 1 ≤ seat }
-    ensures { result ≡ not-eligible (state_of S.PhaseSheet B.StepBook sale.now) seat market shares }
+    ensures { result ≡ not_eligible (state_of S.PhaseSheet B.StepBook sale.now) seat market shares }
 {
     let standing = standing_weight(&sale.sheet, &sale.book, seat);
     let wanted = standing + shares as u32 * sale.sheet.weight(market) as u32;

@@ -1,14 +1,12 @@
 //! A raise.
 ghost use Rattle.std.specs.Prelude.{◌≡◌, ◌-◌, ◌≤◌, true, IfOk, Some, OnOk, slice_set};
 ghost use Rattle.books.specs.Replies.{held, at};
-ghost use Rattle.rules.specs.State.{step_at};
-ghost use Rattle.rules.specs.Raise.{low_raise, without};
-ghost use Rattle.rules.specs.Sale.{raise};
+ghost use Rattle.rules.specs.Sales.{step_at, low_raise, less, raise};
 ghost use Rattle.sale_parts.specs.State.{state_of, Does, TestedButFull, PassesButFull, offered};
 
 use crate::enter::MOST_DISCOUNT;
 use books::StepBook;
-use rules::{Answer, SaleFault, SaleFaultFromBook};
+use rules::{Answer, SaleFault};
 use sale_parts::{SaleParts, outside};
 use sheets::PhaseSheet;
 use steps::StepRecord;
@@ -110,7 +108,7 @@ fn take_out<B: StepBook>(book: &mut B, step: StepRecord, number: u16, shares: u8
     requires held { held (B.StepBook.steps book.old) number ≡ true }
     requires enough { shares ≤ step.standing }
     ensures size { B.StepBook.size book.new ≡ B.StepBook.size book.old }
-    ensures steps { B.StepBook.steps book.new ≡ slice_set (B.StepBook.steps book.old) (number - 1) (without shares step) }
+    ensures steps { B.StepBook.steps book.new ≡ slice_set (B.StepBook.steps book.old) (number - 1) (less shares step) }
 {
     let standing = step.standing - shares;
     let losing = step.losing.saturating_sub(shares);

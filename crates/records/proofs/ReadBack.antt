@@ -1,5 +1,5 @@
 -- An event is read back from the bytes that keep it.
-use Rattle.std.proofs.Common.{◌≡◌, ℕ, List, length, take, Ok, refl, ap, arith}
+use Rattle.std.proofs.Common.{◌≡◌, ℕ, List, length, Ok, refl, ap, arith}
 use Rattle.std.proofs.lemmas.List.{take_all}
 use Rattle.records.specs.Event.{EventValue, opening, new_step, raise, close, changeover, decoded, encoded, Sized, Keeps}
 use Rattle.records.proofs.BigEndian.{number_back}

@@ -5,11 +5,10 @@ use Rattle.std.proofs.lemmas.Bool.Decides.{nat_tests}
 use Rattle.sheets.specs.Figures.{Figures}
 use Rattle.steps.specs.declared.record.StepRecord.{StepRecord}
 use Rattle.rules.specs.declared.account.Account.{Account}
-use Rattle.rules.specs.Lists.{each-with}
-use Rattle.rules.specs.State.{nobody}
-use Rattle.rules.specs.Steps.{weighted, standing_of}
-use Rattle.rules.specs.Tests.{outside}
-use Rattle.rules.specs.Close.{owed, closed-account}
+use Rattle.rules.specs.Lists.{each_with}
+use Rattle.rules.specs.Sales.{nobody, outside, owed}
+use Rattle.rules.specs.Books.{weighted, standing_of}
+use Rattle.rules.specs.Parts.{closed_account}
 use Rattle.accounts.specs.Accounts.{cut_by, with_cut}
 
 -- f of each of the first i, with its number from k on, and the others as they are
@@ -34,7 +33,7 @@ module _ {X : Type 0} (f : ℕ → X → X) where
   one_more k zero n (x ∷ xs) d h e = ap (λ m. f m x ∷ xs) (omega arith)
   one_more k (suc i) n (x ∷ xs) d h e = ap (λ ys. f k x ∷ ys) (one_more (suc k) i n xs d (omega arith) (omega arith))
 
-  pub all_with : (k i : ℕ) (xs : List X) → length xs ≤ i → first_with f k i xs ≡ each-with f k xs
+  pub all_with : (k i : ℕ) (xs : List X) → length xs ≤ i → first_with f k i xs ≡ each_with f k xs
   all_with k zero [] h = refl
   all_with k zero (x ∷ xs) h = absurd (omega arith)
   all_with k (suc i) [] h = refl
@@ -45,11 +44,11 @@ is_seat i n h = grind (arith, nat_tests)
 
 -- the account of seat i + 1 is cut by what it owes and hasn't standing
 pub cut_more : (figures : Figures) (round : ℕ) (steps : List StepRecord) (old now after : List Account) (i by : ℕ) → i < length old →
-    now ≡ first_with (closed-account figures round steps) 1 i old →
+    now ≡ first_with (closed_account figures round steps) 1 i old →
     by ≡ owed figures round (get_or now (i + 1 - 1) nobody).eligible - weighted figures.weight (i + 1) standing_of steps → after ≡ with_cut (i + 1) by now →
-    after ≡ first_with (closed-account figures round steps) 1 (i + 1) old
+    after ≡ first_with (closed_account figures round steps) 1 (i + 1) old
 cut_more figures round steps old now after i by h is lacks cut =
-    let f = closed-account figures round steps in
+    let f = closed_account figures round steps in
     let a = get_or old i nobody in
     let place : i + 1 - 1 ≡ i = omega arith in
     let next : suc i ≡ i + 1 = omega arith in

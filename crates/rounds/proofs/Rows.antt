@@ -1,6 +1,6 @@
 -- Seven increments, filled from a row place by place.
 use Rattle.std.proofs.Common.{◌≡◌, ℕ, zero, suc, ◌+◌, ◌-◌, ◌<◌, ◌≤◌, List, [], ◌∷◌, ◌++◌, map, length, get_or, take, set, replicate, sym, ap, ◌∙◌, add-one, arith}
-use Rattle.rules.specs.Open.{fixed}
+use Rattle.rules.specs.Sales.{fixed}
 
 -- the first i are the row's and the others 0: the next one is set
 next_set : (row : List ℕ) (i k y : ℕ) → i < length row → y ≡ fixed (get_or row i 0)

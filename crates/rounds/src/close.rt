@@ -1,11 +1,10 @@
 //! The closing of a round.
 ghost use Rattle.std.specs.Prelude.{◌≡◌, ◌-◌, ◌≤◌, slice_index_or};
 ghost use Rattle.accounts.specs.Seated.{seated};
-ghost use Rattle.rules.specs.Lists.{each-with};
-ghost use Rattle.rules.specs.State.{nobody};
-ghost use Rattle.rules.specs.Steps.{weighted, standing_of};
-ghost use Rattle.rules.specs.Close.{owed as owed-of, closed-account, ends as sale-ends, close-leaves};
-ghost use Rattle.rules.specs.Sale.{close, answer};
+ghost use Rattle.rules.specs.Lists.{each_with};
+ghost use Rattle.rules.specs.Sales.{nobody, owed as owed-of, ends as sale-ends, close, answer};
+ghost use Rattle.rules.specs.Books.{weighted, standing_of};
+ghost use Rattle.rules.specs.Parts.{closed_account, close_leaves};
 ghost use Rattle.sale_parts.specs.State.{state_of, Does};
 
 use accounts::Seats;
@@ -31,7 +30,7 @@ pub fn close_round<S: PhaseSheet + Drop, B: StepBook + Drop>(
 // Settles the open round: cuts eligibility, rejects losing shares, and hands the lots out.
 fn settle<S: PhaseSheet + Drop, B: StepBook + Drop>(sale: &mut SaleParts<S, B>) -> Answer
     ensures answer { result ≡ answer (state_of S.PhaseSheet B.StepBook sale.old) close }
-    ensures left { state_of S.PhaseSheet B.StepBook sale.new ≡ close-leaves (state_of S.PhaseSheet B.StepBook sale.old) }
+    ensures left { state_of S.PhaseSheet B.StepBook sale.new ≡ close_leaves (state_of S.PhaseSheet B.StepBook sale.old) }
 {
     let ended = ends(sale);
     cut_seats(
@@ -65,7 +64,7 @@ fn owed<S: PhaseSheet>(sheet: &S, round: u64, eligible: u32) -> u32
 
 // Cuts each seat's eligibility by what it owes and hasn't standing, one account at a time.
 fn cut_seats<S: PhaseSheet, B: StepBook>(sheet: &S, book: &B, round: u64, seats: &mut Seats)
-    ensures { seated seats.new ≡ each-with (closed-account (S.PhaseSheet.figures sheet.now) round (B.StepBook.steps book.now)) 1 (seated seats.old) }
+    ensures { seated seats.new ≡ each_with (closed_account (S.PhaseSheet.figures sheet.now) round (B.StepBook.steps book.now)) 1 (seated seats.old) }
 {
     for place in 0..seats.count() {
         let seat = place as u8 + 1;

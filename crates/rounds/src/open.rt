@@ -1,7 +1,7 @@
 //! The opening of a round.
 ghost use Rattle.std.specs.Prelude.{◌≡◌, ◌≤◌, length, OnOk};
-ghost use Rattle.rules.specs.Open.{fixed, padded as padded-row, round-begun};
-ghost use Rattle.rules.specs.Sale.{opening, verdict};
+ghost use Rattle.rules.specs.Parts.{round_begun};
+ghost use Rattle.rules.specs.Sales.{fixed, padded as padded-row, opening, verdict};
 ghost use Rattle.sale_parts.specs.State.{state_of, Tested, Does};
 
 use books::StepBook;
@@ -56,7 +56,7 @@ fn begin_round<S: PhaseSheet + Drop, B: StepBook + Drop>(
     sale: &mut SaleParts<S, B>,
     increments: [u16; 7],
 )
-    ensures { state_of S.PhaseSheet B.StepBook sale.new ≡ round-begun (state_of S.PhaseSheet B.StepBook sale.old) increments }
+    ensures { state_of S.PhaseSheet B.StepBook sale.new ≡ round_begun (state_of S.PhaseSheet B.StepBook sale.old) increments }
 {
     sale.ledger.increments = increments;
     sale.ledger.round = sale.ledger.round.saturating_add(1);

@@ -8,19 +8,19 @@ use Rattle.steps.specs.Rank.{before}
 use Rattle.rules.specs.Books.{ahead, front}
 use Rattle.rules.proofs.Totals.{total_le, total_same, total_plus, total_none, some_or_none}
 
-irreflexive : (a : Bid) → before a a ≡ false
+pub irreflexive : (a : Bid) → before a a ≡ false
 irreflexive a = grind (arith, nat_tests)
 
-transitive : (a b c : Bid) → before a b ≡ true → before b c ≡ true → before a c ≡ true
+pub transitive : (a b c : Bid) → before a b ≡ true → before b c ≡ true → before a c ≡ true
 transitive a b c p q = grind (arith, nat_tests)
 
-total_order : (a b : Bid) → (a.number ≡ b.number → ⊥) → before a b ≡ false → before b a ≡ true
+pub total_order : (a b : Bid) → (a.number ≡ b.number → ⊥) → before a b ≡ false → before b a ≡ true
 total_order a b ne p = grind (arith, nat_tests)
 
 by_discount : (a b : Bid) → b.discount < a.discount → before a b ≡ true
 by_discount a b h = grind (arith, nat_tests)
 
-discounts_fall : (a b : Bid) → before a b ≡ true → b.discount ≤ a.discount
+pub discounts_fall : (a b : Bid) → before a b ≡ true → b.discount ≤ a.discount
 discounts_fall a b p = grind (arith, nat_tests)
 
 pub ahead_self : (a : Bid) → ahead a a ≡ false
@@ -118,12 +118,12 @@ Numbered bid k [] = Unit {0}
 Numbered bid k (x ∷ xs) = ((bid x).number ≡ k) × Numbered bid (suc k) xs
 
 module _ {X : Type 0} (bid : X → Bid) where
-  numbers_from : (k : ℕ) (xs : List X) (x : X) → Numbered bid k xs → In x xs → k ≤ (bid x).number
+  pub numbers_from : (k : ℕ) (xs : List X) (x : X) → Numbered bid k xs → In x xs → k ≤ (bid x).number
   numbers_from k [] x h i = elim i [ ]
   numbers_from k (y ∷ xs) x h (inl e) = omega (arith, ap (λ z. (bid z).number) e, h.0)
   numbers_from k (y ∷ xs) x h (inr i) = omega (arith, numbers_from (suc k) xs x h.1 i)
 
-  unique : (k : ℕ) (xs : List X) (x y : X) → Numbered bid k xs → In x xs → In y xs → (bid x).number ≡ (bid y).number → x ≡ y
+  pub unique : (k : ℕ) (xs : List X) (x y : X) → Numbered bid k xs → In x xs → In y xs → (bid x).number ≡ (bid y).number → x ≡ y
   unique k [] x y h i j e = elim i [ ]
   unique k (z ∷ xs) x y h (inl p) (inl q) e = p ∙ sym q
   unique k (z ∷ xs) x y h (inl p) (inr j) e = absurd (omega (arith, ap (λ z. (bid z).number) p, h.0, numbers_from (suc k) xs y h.1 j))

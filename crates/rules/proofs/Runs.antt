@@ -284,6 +284,7 @@ reached_run s more book calls r =
 
 -- whatever led to s, a run goes on fairly from it
 pub stays_fair : (s s' : State) (more : List Call) → Lawful s.figures → s' ≡ run s more → StaysFair s more s'
+unfolding StaysFair
 stays_fair s s' more l e =
     subst (StaysFair s more) (sym e)
     (λ book calls r. outcome (run s more) book (calls ++ more) (subst Lawful (sym (same_run s more).figures_same) l) (reached_run s more book calls r))

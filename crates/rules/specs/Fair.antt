@@ -86,5 +86,5 @@ pub record FairOutcome (s : State) (book : List StepRecord) (calls : List Call) 
   pub real : (n : ℕ) → All (RealCall (Real n)) calls → Real (suc n) s
 
 -- whatever calls led to s, these more lead fairly to s'
-abbrev pub StaysFair : State → List Call → State → Type 0
+unfoldable pub StaysFair : State → List Call → State → Type 0
 StaysFair s more s' = (book : List StepRecord) (calls : List Call) → Reached s book calls → FairOutcome s' book (calls ++ more)

@@ -6,3 +6,4 @@ pub mod Tallies
 pub mod Fair
 pub mod Bonds
 pub mod Cases
+pub mod Parts

@@ -21,3 +21,8 @@ All P (x ∷ xs) = P x × All P xs
 abbrev pub listed : {X : Type 0} → (ℕ → X) → ℕ → ℕ → List X
 listed f k zero = []
 listed f k (suc n) = f k ∷ listed f (suc k) n
+
+-- f of each with its number, where the first has the number k
+abbrev pub each_with : {X Y : Type 0} → (ℕ → X → Y) → ℕ → List X → List Y
+each_with f k [] = []
+each_with f k (x ∷ xs) = f k x ∷ each_with f (suc k) xs

@@ -128,7 +128,7 @@ seat_over k [] = 0
 seat_over k (d ∷ ds) = cond (nat_lt 20_000_000 d) k (seat_over (k + 1) ds)
 
 -- the tests of each call, in their order
-unfoldable pub tests : State → Call → List Test
+abbrev pub tests : State → Call → List Test
 tests s (start deposits) =
     refuse (SeatCount (length deposits)) (outside (length deposits) 24)
     ∷ refuse (DepositSize (seat_over 1 deposits)) (any (λ d. ltb 20_000_000 d) deposits)
@@ -233,7 +233,7 @@ carried first k (a ∷ rest) =
     record { bought = left; eligible = left } ∷ carried first (suc k) rest
 
 -- what each accepted call leaves
-unfoldable pub done : State → Call → State
+abbrev pub done : State → Call → State
 done s (start deposits) = record {
   figures = s.figures;
   size = s.size;
@@ -322,7 +322,7 @@ done s close = record {
 }
 
 -- what each accepted call answers
-unfoldable pub answer : State → Call → Answer
+abbrev pub answer : State → Call → Answer
 answer s (start deposits) = Told 100
 answer s (changeover first) = Told (first.lots - won_in first)
 answer s (opening row) = Told (next_round s)

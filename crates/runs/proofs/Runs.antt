@@ -3,8 +3,8 @@ use Rattle.std.proofs.Common.{◌≡◌, ℕ, suc, ◌+◌, ◌<◌, List, [], �
 use Rattle.std.proofs.lemmas.List.{take_more, map-append}
 use Rattle.rules.specs.declared.answer.Answer.{Answer}
 use Rattle.rules.specs.declared.fault.SaleFault.{SaleFault}
-use Rattle.rules.specs.State.{State}
-use Rattle.rules.specs.Sale.{Call, reply, after, run, replies}
+use Rattle.rules.specs.Sales.{State, Call, reply, after, run}
+use Rattle.rules.specs.Parts.{replies}
 use Rattle.rules.proofs.Runs.{run_append}
 use Rattle.sale_parts.specs.State.{Obeys}
 

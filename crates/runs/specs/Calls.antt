@@ -2,7 +2,7 @@
 use Rattle.std.specs.Prelude.{List, [], map, Ok, Err, Result}
 use Rattle.sheets.specs.declared.sheet.PhaseSheet.{Ghosts as SheetGhosts}
 use Rattle.books.specs.declared.book.StepBook.{Ghosts as BookGhosts}
-use Rattle.rules.specs.Sale.{Call, start, changeover, opening, enter, raise, close}
+use Rattle.rules.specs.Sales.{Call, start, changeover, opening, enter, raise, close}
 use Rattle.runs.specs.declared.call.Call.{Call as CodeCall}
 use Rattle.runs.specs.declared.call.Call.TheVariants.{Start, Changeover, Open, Enter, Raise, Close}
 use Rattle.sales.specs.State.{state_of}

@@ -1,7 +1,7 @@
 //! Calls one after the other, and what is proved of every run of them.
 ghost use Rattle.std.specs.Prelude.{◌≡◌, ◌≤◌, List, [], length, IfOk, vec_capacity};
-ghost use Rattle.rules.specs.State.{State};
-ghost use Rattle.rules.specs.Sale.{Call as RulesCall, run, replies};
+ghost use Rattle.rules.specs.Sales.{State, Call as RulesCall, run};
+ghost use Rattle.rules.specs.Parts.{replies};
 ghost use Rattle.rules.specs.Fair.{StaysFair};
 ghost use Rattle.sales.specs.State.{state_of, Does, GoesOnFairly};
 ghost use Rattle.runs.specs.Calls.{call_of, calls_of, made_of};

@@ -8,10 +8,8 @@ use Rattle.rules.specs.declared.fault.SaleFault.{SaleFault}
 use Rattle.rules.specs.declared.fault.SaleFault.TheVariants.{Book}
 use Rattle.steps.specs.Rule.{offer_ok, shares_ok}
 use Rattle.steps.specs.declared.fault.BookFault.TheVariants.{Full}
-use Rattle.rules.specs.State.{State}
-use Rattle.rules.specs.Tests.{Verdict, passed, failed, unless}
-use Rattle.rules.specs.Enter.{book-full}
-use Rattle.rules.specs.Sale.{Call, verdict, reply, after}
+use Rattle.rules.specs.Sales.{State, Verdict, passed, failed, unless, Call, verdict, reply, after}
+use Rattle.rules.specs.Parts.{book_full}
 use Rattle.sale_parts.specs.declared.parts.SaleParts.{SaleParts}
 
 -- the state that the rules speak of: the sheet's figures, the book's size and steps, and the ledger
@@ -47,7 +45,7 @@ Tested v (Err f) = v ≡ failed f
 
 -- a call passes every test but perhaps the last, which refuses it where the book is full
 abbrev pub PassesButFull : State → Call → Type 0
-PassesButFull s c = verdict s c ≡ unless (book-full s) (Book Full) passed
+PassesButFull s c = verdict s c ≡ unless (book_full s) (Book Full) passed
 
 -- r tells that a call passes so, or why it is refused
 abbrev pub TestedButFull : {X : Type 0} → State → Call → Result X SaleFault → Type 0

@@ -1,8 +1,8 @@
 //! A sale's parts as they are made, and what several calls ask of them.
 ghost use Rattle.std.specs.Prelude.{◌≡◌};
 ghost use Rattle.accounts.specs.Seated.{seated};
-ghost use Rattle.rules.specs.State.{fresh, begun, taken as is-taken};
-ghost use Rattle.rules.specs.Tests.{outside as is-outside};
+ghost use Rattle.rules.specs.Parts.{begun};
+ghost use Rattle.rules.specs.Sales.{fresh, taken as is-taken, outside as is-outside};
 ghost use Rattle.sale_parts.specs.State.{state_of};
 
 use crate::ledger::Ledger;

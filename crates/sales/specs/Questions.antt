@@ -4,8 +4,7 @@ use Rattle.steps.specs.declared.step.Step.{Step}
 use Rattle.steps.specs.declared.fault.BookFault.TheVariants.{NoStep}
 use Rattle.rules.specs.declared.fault.SaleFault.{SaleFault}
 use Rattle.rules.specs.declared.fault.SaleFault.TheVariants.{Book, NoSeat, NoMarket}
-use Rattle.rules.specs.State.{State, step_at}
-use Rattle.rules.specs.Tests.{outside}
+use Rattle.rules.specs.Sales.{State, step_at, outside}
 
 -- x, or a refusal where the sale has no such market
 abbrev pub OfMarket : {X : Type 0} → State → ℕ → X → Result X SaleFault → Type 0

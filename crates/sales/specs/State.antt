@@ -5,8 +5,7 @@ use Rattle.books.specs.declared.book.StepBook.{Ghosts as BookGhosts}
 use Rattle.sale_parts.specs.State.{Obeys, state_of as parts-state}
 use Rattle.rules.specs.declared.answer.Answer.{Answer}
 use Rattle.rules.specs.declared.fault.SaleFault.{SaleFault}
-use Rattle.rules.specs.State.{State}
-use Rattle.rules.specs.Sale.{Call}
+use Rattle.rules.specs.Sales.{State, Call}
 use Rattle.rules.specs.Fair.{StaysFair}
 use Rattle.sales.specs.declared.sale.Sale.{Sale}
 

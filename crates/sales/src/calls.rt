@@ -1,7 +1,6 @@
 //! The calls of a sale.
 ghost use Rattle.std.specs.Prelude.{◌≡◌, List};
-ghost use Rattle.rules.specs.State.{State, fresh};
-ghost use Rattle.rules.specs.Sale.{Call, start, changeover, opening, enter, raise, close, run};
+ghost use Rattle.rules.specs.Sales.{State, fresh, Call, start, changeover, opening, enter, raise, close, run};
 ghost use Rattle.rules.specs.Fair.{StaysFair};
 ghost use Rattle.sales.specs.State.{state_of, Does, GoesOnFairly};
 

@@ -2,17 +2,16 @@
 ghost use Rattle.std.specs.Prelude.{◌≡◌, ◌-◌, ◌<◌, true, false, length, IfOk, MatchResult};
 ghost use Rattle.winners.specs.Winning.{winning};
 ghost use Rattle.rules.specs.declared.fault.SaleFault.TheVariants.{NoMarket};
-ghost use Rattle.rules.specs.State.{account, increment, clearing_at, standing_weight, won_in};
+ghost use Rattle.rules.specs.Sales.{account, increment, clearing_at, standing_weight, won_in, outside as is-outside};
 ghost use Rattle.rules.specs.Lists.{total};
-ghost use Rattle.rules.specs.Rank.{of-both};
-ghost use Rattle.rules.specs.Steps.{bid_of, won, standing_of};
-ghost use Rattle.rules.specs.Tests.{outside as is-outside};
+ghost use Rattle.rules.specs.Parts.{of_both};
+ghost use Rattle.rules.specs.Books.{bid_of, won, standing_of};
 ghost use Rattle.sales.specs.State.{state_of};
 ghost use Rattle.sales.specs.Questions.{OfMarket, OfSeat, OfNumber};
 
 use crate::sale::Sale;
 use books::StepBook;
-use rules::{Account, SaleFault, SaleFaultFromBook};
+use rules::{Account, SaleFault};
 use sale_parts::outside;
 use sheets::PhaseSheet;
 use std::alloc::{AllocError, Global};
@@ -129,7 +128,7 @@ impl<S: PhaseSheet + Drop, B: StepBook + Drop> Sale<S, B> {
 
     /// The shares that the seat has won in the market.
     pub fn shares_won_by(&self, seat: u8, market: u8) -> u32
-        ensures { result ≡ of-both bid_of won seat market (state_of S.PhaseSheet B.StepBook self.now).steps }
+        ensures { result ≡ of_both bid_of won seat market (state_of S.PhaseSheet B.StepBook self.now).steps }
     {
         shares_won_by_in(&self.parts.book, seat, market)
     }

@@ -1,7 +1,6 @@
 -- A record put into a file is read back, and no other record changes.
 use Rattle.std.proofs.Common.{◌≡◌, ℕ, ◌+◌, ◌-◌, ◌*◌, ◌^◌, ◌<◌, ◌≤◌, Bool, true, false, cond, ◌⊎◌, List, length, take, Ok, Err, Result, sym, refl, ap, ◌∙◌, subst, arith}
 use borrow.Rule.Slice.PartMut.{put_mid}
-use Rattle.std.specs.List.{between}
 use Rattle.faults.specs.declared.record.RecordFault.TheVariants.{RowLength}
 use Rattle.records.specs.Bytes.{be, bytes_of}
 use Rattle.records.specs.Event.{EventValue, encoded, decoded, row_fits, Keeps}
@@ -9,8 +8,8 @@ use Rattle.records.proofs.BigEndian.{number_back}
 use Rattle.faults.specs.declared.section.Section.{Section}
 use Rattle.faults.specs.declared.section.Section.TheVariants.{Deposits, Events}
 use Rattle.faults.specs.declared.file.FileFault.{FileFault}
-use Rattle.faults.specs.declared.file.FileFault.TheVariants.{NoRecord, Record}
-use Rattle.sessions.specs.Layout.{count, start, place, width}
+use Rattle.faults.specs.declared.file.FileFault.TheVariants.{Record}
+use Rattle.sessions.specs.Layout.{count, place, width}
 use Rattle.sessions.specs.Reading.{opened, numbered, next, record_at, located, of_number}
 use Rattle.session_writer.specs.Writing.{written, deposit_put, event_put}
 use Rattle.session_writer.specs.RoundTrip.{OnlyRecord, DepositIn, EventIn}

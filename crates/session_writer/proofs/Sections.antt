@@ -2,7 +2,7 @@
 use Rattle.std.proofs.Common.{◌≡◌, ℕ, zero, suc, ◌+◌, ◌-◌, ◌*◌, ◌<◌, ◌≤◌, List, [], ◌∷◌, ◌++◌, length, get_or, take, drop, sym, refl, ap, ◌∙◌, subst, append_assoc, mul-le-mul_left, mul-zero, mul-suc, arith}
 use borrow.Rule.Slice.PartMut.{put_mid}
 use Rattle.std.specs.List.{between, flat_map}
-use Rattle.std.proofs.lemmas.List.{length-append, length-drop, append-nil, take_at, drop_at, drop-drop, take_more, take-append-le, drop-append-le, take_all, flat_map_more, length-take-le, get_or-take}
+use Rattle.std.proofs.lemmas.List.{length-append, length-drop, take_at, drop_at, drop-drop, take_more, take-append-le, drop-append-le, take_all, flat_map_more, length-take-le, get_or-take}
 use Rattle.session_writer.specs.Writing.{written}
 use Rattle.std.proofs.lemmas.Slice.{take-put_mid}
 use Rattle.session_writer.proofs.Written.{drop_written, part_written}

@@ -1,25 +1,23 @@
 -- A whole session, written record by record and read back.
-use Rattle.std.proofs.Common.{◌≡◌, ℕ, ◌+◌, ◌-◌, ◌*◌, ◌^◌, ◌<◌, ◌≤◌, Bool, true, false, cond, List, [], ◌∷◌, ◌++◌, map, length, get_or, take, drop, Ok, Err, Result, sym, refl, ap, ◌∙◌, subst, append_assoc, add_assoc, arith, below_more}
-use borrow.Rule.Slice.PartMut.{put_mid}
+use Rattle.std.proofs.Common.{◌≡◌, ℕ, ◌+◌, ◌-◌, ◌*◌, ◌^◌, ◌<◌, true, false, cond, List, ◌++◌, length, get_or, drop, Ok, Err, Result, sym, refl, ap, ◌∙◌, subst, append_assoc, add_assoc, arith, below_more}
 use Rattle.std.specs.List.{between, flat_map}
-use Rattle.std.proofs.lemmas.List.{drop_more, drop_all, take_all, get_or-map, length-map, length-append, length-drop}
+use Rattle.std.proofs.lemmas.List.{drop_more, length-append}
 use Rattle.std.proofs.lemmas.Bool.Decides.{nat_tests}
 use Rattle.faults.specs.declared.record.RecordFault.{RecordFault}
 use Rattle.faults.specs.declared.record.RecordFault.TheVariants.{RowLength}
 use Rattle.records.specs.Bytes.{be, bytes_of}
 use Rattle.records.specs.Event.{EventValue, close, encoded, decoded, row_fits, Keeps}
 use Rattle.records.proofs.BigEndian.{number_back, length_bytes_of}
-use Rattle.faults.specs.declared.section.Section.{Section}
 use Rattle.faults.specs.declared.section.Section.TheVariants.{Deposits, Events}
 use Rattle.faults.specs.declared.file.FileFault.{FileFault}
 use Rattle.faults.specs.declared.file.FileFault.TheVariants.{Record}
-use Rattle.sessions.specs.Layout.{header_of, size_of, count, place}
-use Rattle.sessions.specs.Reading.{opened, next, numbered, record_at, deposit_at, event_at, of_number}
+use Rattle.sessions.specs.Layout.{header_of, count, place}
+use Rattle.sessions.specs.Reading.{opened, next, numbered, deposit_at, event_at, of_number}
 use Rattle.session_writer.specs.Writing.{written, Room, rows_fit, room_for, session_fits, session_bytes, session_put}
 use Rattle.session_writer.specs.RoundTrip.{Kept, AllKept, SessionIn}
 use Rattle.session_writer.proofs.Layouts.{header_opens, deposit_count, event_count, deposit_start, event_start}
 use Rattle.sessions.proofs.Records.{record_read}
-use Rattle.session_writer.proofs.Sections.{Even, length_joined, joined_part, written_more, records_more, between_behind, between_front}
+use Rattle.session_writer.proofs.Sections.{Even, length_joined, joined_part, written_more, between_behind, between_front}
 
 -- the test of the rows, one event on
 module _ (vs : List EventValue) (i : ℕ) (h : i < length vs) (v : EventValue) (e : get_or vs i close ≡ v) where

@@ -1,5 +1,5 @@
 -- What a write to a session file leaves in the memory lent for it.
-use Rattle.std.specs.Prelude.{◌≡◌, ℕ, ◌+◌, ◌<◌, ◌≤◌, Bool, cond, not, ◌&&◌, List, [], ◌∷◌, ◌++◌, length, take, drop, Ok, Err, Result, nat_le, nat_lt}
+use Rattle.std.specs.Prelude.{◌≡◌, ℕ, ◌+◌, ◌<◌, ◌≤◌, cond, not, ◌&&◌, List, [], ◌∷◌, ◌++◌, length, take, drop, Ok, Err, Result, nat_le, nat_lt}
 use Rattle.std.specs.List.{flat_map}
 use Rattle.faults.specs.declared.record.RecordFault.TheVariants.{RowLength}
 use Rattle.records.specs.Bytes.{bytes_of}

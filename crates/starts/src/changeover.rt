@@ -1,9 +1,8 @@
 //! The changeover: a sale starts with what an ended first one left.
 ghost use Rattle.std.specs.Prelude.{◌≡◌, ◌-◌, ◌≤◌};
 ghost use Rattle.accounts.specs.Seated.{seated};
-ghost use Rattle.rules.specs.State.{account};
-ghost use Rattle.rules.specs.Changeover.{unsold, left-to, carried};
-ghost use Rattle.rules.specs.Sale.{changeover, verdict};
+ghost use Rattle.rules.specs.Sales.{account, carried, changeover, verdict};
+ghost use Rattle.rules.specs.Parts.{unsold, left_to};
 ghost use Rattle.sale_parts.specs.State.{state_of, Tested, Does};
 
 use accounts::Seats;
@@ -61,7 +60,7 @@ fn lots_left<S: PhaseSheet + Drop, B: StepBook + Drop>(sale: &SaleParts<S, B>) -
 // What a seat bought less its winnings, each share times the weight of the one market.
 fn bought_left<S: PhaseSheet + Drop, B: StepBook + Drop>(sale: &SaleParts<S, B>, seat: u8) -> u32
     requires { 1 ≤ seat }
-    ensures { result ≡ left-to (state_of S.PhaseSheet B.StepBook sale.now) seat (account (state_of S.PhaseSheet B.StepBook sale.now) (seat - 1)) }
+    ensures { result ≡ left_to (state_of S.PhaseSheet B.StepBook sale.now) seat (account (state_of S.PhaseSheet B.StepBook sale.now) (seat - 1)) }
 {
     let spent = sale.sheet.weight(1) as u32 * shares_won_by(&sale.book, seat);
     match sale.ledger.seats.account(seat) {

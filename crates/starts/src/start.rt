@@ -1,8 +1,7 @@
 //! The start of a sale.
 ghost use Rattle.std.specs.Prelude.{◌≡◌, ◌≤◌, map, length, OnOk};
 ghost use Rattle.accounts.specs.Seated.{seated};
-ghost use Rattle.rules.specs.Start.{dollars};
-ghost use Rattle.rules.specs.Sale.{start, verdict};
+ghost use Rattle.rules.specs.Sales.{dollars, start, verdict};
 ghost use Rattle.sale_parts.specs.State.{state_of, Tested, Does};
 
 use accounts::Seats;

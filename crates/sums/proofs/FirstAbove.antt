@@ -2,7 +2,7 @@
 use Rattle.std.proofs.Common.{◌≡◌, ℕ, zero, suc, ◌+◌, ◌<◌, ◌≤◌, Bool, true, false, cond, ltb, List, [], ◌∷◌, length, get_or, take, Some, sym, refl, ap, ◌∙◌, add-zero, add-one, arith}
 use Rattle.std.proofs.lemmas.List.{take_all}
 use Rattle.std.proofs.lemmas.Bool.{cond-true, cond-false, or_parts, or_from, or_left, or_right}
-use Rattle.rules.specs.Start.{seat_over}
+use Rattle.rules.specs.Sales.{seat_over}
 use Rattle.sums.specs.Above.{any_above, place_above, FirstAbove}
 
 module _ {X : Type 0} (value : X → ℕ) (most : ℕ) where

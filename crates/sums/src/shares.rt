@@ -1,8 +1,8 @@
 //! Sums of shares: of a whole book, of a seat's steps, and of a market's.
 ghost use Rattle.std.specs.Prelude.{◌≡◌, ◌≤◌, ◌&&◌, if◌then◌else◌, ◌==◌, nat_eq};
 ghost use Rattle.rules.specs.Lists.{total};
-ghost use Rattle.rules.specs.Rank.{of-both};
-ghost use Rattle.rules.specs.Steps.{bid_of, won, losing-of, standing_of, of_seat};
+ghost use Rattle.rules.specs.Parts.{of_both, losing_of};
+ghost use Rattle.rules.specs.Books.{bid_of, won, standing_of, of_seat};
 
 use crate::measure::{Measure, sum_over};
 use books::StepBook;
@@ -45,7 +45,7 @@ impl Measure for Won {
 }
 
 impl Measure for Losing {
-    ghost amount = { λ _. losing-of };
+    ghost amount = { λ _. losing_of };
 
     ghost most = { 100 };
 
@@ -103,7 +103,7 @@ pub fn shares_won<B: StepBook>(book: &B) -> u32
 
 /// The losing shares in the book.
 pub fn shares_losing<B: StepBook>(book: &B) -> u32
-    ensures sum { result ≡ total losing-of (B.StepBook.steps book.now) }
+    ensures sum { result ≡ total losing_of (B.StepBook.steps book.now) }
     ensures most { result ≤ 102400 }
 {
     sum_over(book, &Losing)
@@ -127,7 +127,7 @@ pub fn shares_won_by<B: StepBook>(book: &B, seat: u8) -> u32
 
 /// The shares that the seat has won in the market.
 pub fn shares_won_by_in<B: StepBook>(book: &B, seat: u8, market: u8) -> u32
-    ensures sum { result ≡ of-both bid_of won seat market (B.StepBook.steps book.now) }
+    ensures sum { result ≡ of_both bid_of won seat market (B.StepBook.steps book.now) }
     ensures most { result ≤ 102400 }
 {
     sum_over(book, &WonByIn { seat, market })

@@ -1,6 +1,6 @@
 //! The weighted sum of a seat's standing shares.
 ghost use Rattle.std.specs.Prelude.{◌≡◌, ◌*◌, ◌≤◌, if◌then◌else◌, nat_eq};
-ghost use Rattle.rules.specs.Steps.{standing_of, weighted};
+ghost use Rattle.rules.specs.Books.{standing_of, weighted};
 
 use crate::measure::{Measure, sum_over};
 use books::StepBook;

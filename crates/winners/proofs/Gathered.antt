@@ -6,27 +6,27 @@ use Rattle.steps.specs.declared.record.StepRecord.{StepRecord}
 use Rattle.steps.specs.Rank.{before}
 use Rattle.books.specs.Replies.{at, NextReply}
 use Rattle.books.specs.Lawful.{SoundBelow}
-use Rattle.rules.specs.Rank.{ranked-in, in-rank}
-use Rattle.rules.specs.Steps.{bid_of}
+use Rattle.rules.specs.Parts.{ranked_in, in_rank}
+use Rattle.rules.specs.Books.{bid_of}
 use Rattle.winners.specs.Winning.{is_winning, winning}
 use Rattle.winners.proofs.NextInRank.{rank_behind, behind_top, next_first, next_none}
 
 -- one more goes into a ranked list
-ranked_in_longer : (x : StepRecord) (ys : List StepRecord) → length (ranked-in bid_of x ys) ≡ suc (length ys)
+ranked_in_longer : (x : StepRecord) (ys : List StepRecord) → length (ranked_in bid_of x ys) ≡ suc (length ys)
 ranked_in_longer x [] = refl
 ranked_in_longer x (y ∷ ys) = go (before x.bid y.bid) (ranked_in_longer x ys)
   where
-    go : (t : Bool) → length (ranked-in bid_of x ys) ≡ suc (length ys) → length (cond t (x ∷ y ∷ ys) (y ∷ ranked-in bid_of x ys)) ≡ suc (suc (length ys))
+    go : (t : Bool) → length (ranked_in bid_of x ys) ≡ suc (length ys) → length (cond t (x ∷ y ∷ ys) (y ∷ ranked_in bid_of x ys)) ≡ suc (suc (length ys))
     go true r = refl
     go false r = ap suc r
 
 -- a market has no more steps than the book
-rank_short : (m : ℕ) (xs : List StepRecord) → length (in-rank bid_of m xs) ≤ length xs
+rank_short : (m : ℕ) (xs : List StepRecord) → length (in_rank bid_of m xs) ≤ length xs
 rank_short m [] = omega arith
 rank_short m (x ∷ xs) = go (eqb x.bid.market m) (rank_short m xs)
   where
-    go : (t : Bool) → length (in-rank bid_of m xs) ≤ length xs → length (cond t (ranked-in bid_of x (in-rank bid_of m xs)) (in-rank bid_of m xs)) ≤ suc (length xs)
-    go true r = omega (arith, ranked_in_longer x (in-rank bid_of m xs))
+    go : (t : Bool) → length (in_rank bid_of m xs) ≤ length xs → length (cond t (ranked_in bid_of x (in_rank bid_of m xs)) (in_rank bid_of m xs)) ≤ suc (length xs)
+    go true r = omega (arith, ranked_in_longer x (in_rank bid_of m xs))
     go false r = omega arith
 
 -- at number n: with the winning steps that come behind it, those found are all, and there is room for them

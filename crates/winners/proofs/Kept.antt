@@ -6,7 +6,7 @@ use Rattle.steps.specs.declared.record.StepRecord.{StepRecord}
 use Rattle.steps.specs.Rank.{before, step_precedes}
 use Rattle.steps.specs.Rule.{no_step}
 use Rattle.rules.specs.Lists.{In}
-use Rattle.rules.specs.Steps.{bid_of}
+use Rattle.rules.specs.Books.{bid_of}
 use Rattle.rules.proofs.Totals.{in_at}
 use Rattle.rules.proofs.Ranks.{irreflexive}
 use Rattle.rules.proofs.DownRank.{Sorted}

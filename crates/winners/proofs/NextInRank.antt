@@ -8,11 +8,11 @@ use Rattle.steps.specs.Rule.{no_step}
 use Rattle.books.specs.Replies.{at, place_of, NextReply}
 use Rattle.books.specs.Lawful.{SoundBelow}
 use Rattle.rules.specs.Lists.{In}
-use Rattle.rules.specs.Rank.{in-rank}
-use Rattle.rules.specs.Steps.{bid_of}
+use Rattle.rules.specs.Parts.{in_rank}
+use Rattle.rules.specs.Books.{bid_of}
 use Rattle.rules.proofs.Totals.{in_at}
 use Rattle.rules.proofs.Ranks.{Numbered, transitive}
-use Rattle.rules.proofs.DownRank.{Sorted, from-rank, into-rank, in-rank-sorted}
+use Rattle.rules.proofs.DownRank.{Sorted, from_rank, into_rank, in_rank_sorted}
 use Rattle.winners.proofs.Kept.{kept_all, kept_none, kept_from, kept_behind}
 
 -- the step x ranks behind the one of number n; every step ranks behind number 0
@@ -21,7 +21,7 @@ behind xs n x = eqb n 0 || step_precedes (at xs n) x
 
 -- those of the market m, in rank, that come behind the step of number n
 abbrev pub rank_behind : ℕ → List StepRecord → ℕ → List StepRecord
-rank_behind m xs n = filter (behind xs n) (in-rank bid_of m xs)
+rank_behind m xs n = filter (behind xs n) (in_rank bid_of m xs)
 
 -- the number of the first, if there is one
 abbrev pub first_number : List StepRecord → Option ℕ
@@ -40,8 +40,8 @@ numbered_from k [] h = tt
 numbered_from k (x ∷ xs) h = (omega (arith, h 0 (omega arith)), numbered_from (suc k) xs (λ i l. omega (arith, h (suc i) (omega arith))))
 
 -- the whole rank comes behind number 0
-pub behind_top : (m : ℕ) (xs : List StepRecord) → rank_behind m xs 0 ≡ in-rank bid_of m xs
-behind_top m xs = kept_all (behind xs 0) (in-rank bid_of m xs) (λ y i. refl)
+pub behind_top : (m : ℕ) (xs : List StepRecord) → rank_behind m xs 0 ≡ in_rank bid_of m xs
+behind_top m xs = kept_all (behind xs 0) (in_rank bid_of m xs) (λ y i. refl)
 
 -- the steps of a book, which are numbered by their places, and a market
 module _ (m : ℕ) (xs : List StepRecord) (sound : SoundBelow xs (length xs)) where
@@ -51,11 +51,11 @@ module _ (m : ℕ) (xs : List StepRecord) (sound : SoundBelow xs (length xs)) wh
   numbered : Numbered bid_of 1 xs
   numbered = numbered_from 1 xs (λ i l. omega (arith, number_at i l))
 
-  ranked : Sorted bid_of (in-rank bid_of m xs)
-  ranked = in-rank-sorted bid_of m 1 xs numbered
+  ranked : Sorted bid_of (in_rank bid_of m xs)
+  ranked = in_rank_sorted bid_of m 1 xs numbered
 
-  behind_number : (p : ℕ) → 1 ≤ p → rank_behind m xs p ≡ filter (step_precedes (at xs p)) (in-rank bid_of m xs)
-  behind_number p one = ap (λ t. filter (λ x. t || step_precedes (at xs p) x) (in-rank bid_of m xs)) (ne_eqb p 0 (λ e. omega arith))
+  behind_number : (p : ℕ) → 1 ≤ p → rank_behind m xs p ≡ filter (step_precedes (at xs p)) (in_rank bid_of m xs)
+  behind_number p one = ap (λ t. filter (λ x. t || step_precedes (at xs p) x) (in_rank bid_of m xs)) (ne_eqb p 0 (λ e. omega arith))
 
   module _ (n : ℕ) (within : n ≤ length xs) where
     from_reply : (k : ℕ) → Behind step_precedes no_step xs (place_of n) k → behind xs n (get_or xs k no_step) ≡ true
@@ -74,9 +74,9 @@ module _ (m : ℕ) (xs : List StepRecord) (sound : SoundBelow xs (length xs)) wh
 
     -- where no step with P stands behind number n, as next sees it, the rank has none behind n
     none_behind : (P : StepRecord → Type 0) → ((k : ℕ) → k < length xs → Stands market_of step_precedes no_step xs m (place_of n) k → P (get_or xs k no_step) → ⊥)
-        → (z : StepRecord) → In z (in-rank bid_of m xs) → P z → behind xs n z ≡ false
+        → (z : StepRecord) → In z (in_rank bid_of m xs) → P z → behind xs n z ≡ false
     none_behind P h z i =
-        let from = from-rank bid_of m z xs i in
+        let from = from_rank bid_of m z xs i in
         each (λ y. y.bid.market ≡ m → P y → behind xs n y ≡ false) xs (λ k l e q. go k l e q (behind xs n (get_or xs k no_step)) refl) z from.0 from.1
       where
         go : (k : ℕ) → k < length xs → (get_or xs k no_step).bid.market ≡ m → P (get_or xs k no_step) → (t : Bool) → behind xs n (get_or xs k no_step) ≡ t → behind xs n (get_or xs k no_step) ≡ false
@@ -100,9 +100,9 @@ module _ (m : ℕ) (xs : List StepRecord) (sound : SoundBelow xs (length xs)) wh
       kept_from
       (behind xs n)
       y
-      (in-rank bid_of m xs)
+      (in_rank bid_of m xs)
       ranked
-      (into-rank bid_of m y xs f.stands.1 (in_at xs (p - 1) no_step f.below))
+      (into_rank bid_of m y xs f.stands.1 (in_at xs (p - 1) no_step f.below))
       here
       (none_behind n h.0 (λ z. step_precedes z y ≡ true) (λ k l s q. both_ways _ (f.leads k l s) q))
       (λ z i q. further n h.0 y z here q)
@@ -111,7 +111,7 @@ module _ (m : ℕ) (xs : List StepRecord) (sound : SoundBelow xs (length xs)) wh
   -- where next answers none, none comes behind number n
   pub next_none : (n : ℕ) → NextReply xs m n (Ok None) → rank_behind m xs n ≡ []
   next_none n h =
-      kept_none (behind xs n) (in-rank bid_of m xs) (λ z i. none_behind n h.0 (λ _. Unit {0}) (λ k l s _. h.2.first no_step k l s) z i tt)
+      kept_none (behind xs n) (in_rank bid_of m xs) (λ z i. none_behind n h.0 (λ _. Unit {0}) (λ k l s _. h.2.first no_step k l s) z i tt)
 
   next_number : (n : ℕ) (r : Option ℕ) → NextReply xs m n (Ok r) → r ≡ first_number (rank_behind m xs n)
   next_number n None h = sym (ap first_number (next_none n h))
@@ -120,16 +120,16 @@ module _ (m : ℕ) (xs : List StepRecord) (sound : SoundBelow xs (length xs)) wh
       ap (λ k. Some k) number ∙ sym (ap first_number (next_first n p h))
 
   -- at the top next answers the first of the rank, or none where the rank is empty
-  pub top_in_rank : (r : Option ℕ) → NextReply xs m 0 (Ok r) → r ≡ first_number (in-rank bid_of m xs)
+  pub top_in_rank : (r : Option ℕ) → NextReply xs m 0 (Ok r) → r ≡ first_number (in_rank bid_of m xs)
   top_in_rank r h = next_number 0 r h ∙ ap first_number (behind_top m xs)
 
   -- behind the one at place i of the rank it answers the one at place i + 1, or none where that is past the end
-  pub next_in_rank : (i : ℕ) (r : Option ℕ) → i < length (in-rank bid_of m xs) → NextReply xs m (get_or (in-rank bid_of m xs) i no_step).bid.number (Ok r)
-      → r ≡ first_number (drop (i + 1) (in-rank bid_of m xs))
+  pub next_in_rank : (i : ℕ) (r : Option ℕ) → i < length (in_rank bid_of m xs) → NextReply xs m (get_or (in_rank bid_of m xs) i no_step).bid.number (Ok r)
+      → r ≡ first_number (drop (i + 1) (in_rank bid_of m xs))
   next_in_rank i r l h =
-      let rank = in-rank bid_of m xs in
+      let rank = in_rank bid_of m xs in
       let y = get_or rank i no_step in
-      let own = (from-rank bid_of m y xs (in_at rank i no_step l)).0 in
+      let own = (from_rank bid_of m y xs (in_at rank i no_step l)).0 in
       let back = each (λ z. (at xs z.bid.number ≡ z) × (1 ≤ z.bid.number)) xs placed y own in
       next_number y.bid.number r h
       ∙ ap first_number (behind_number y.bid.number back.1 ∙ ap (λ z. filter (step_precedes z) rank) back.0 ∙ kept_behind rank i ranked l)

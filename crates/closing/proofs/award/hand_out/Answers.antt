@@ -1,5 +1,5 @@
 use Rattle.std.proofs.Common.{None, refl, ◌∙◌, arith, length-set}
-use Rattle.rules.specs.Close.{settled, least}
+use Rattle.rules.specs.Books.{settled, least}
 use Rattle.closing.proofs.Markets.{upto_none, upto_more, upto_clearing, upto_all, filled_more, filled_all}
 use Rattle.closing.proofs.award.hand_out.Goals as goal
 

@@ -1,5 +1,5 @@
 use Rattle.std.proofs.Common.{◌≡◌, length, None}
-use Rattle.rules.specs.Close.{settled, least}
+use Rattle.rules.specs.Books.{settled, least}
 use Rattle.closing.proofs.Markets.{upto, Filled}
 use Rattle.closing.proofs.award.hand_out.Given as goal
 

@@ -2,7 +2,7 @@ use Rattle.std.proofs.Common.{length, sym, ap, ◌∙◌, arith, length-set, tru
 use lib.ListN.{length-replicate}
 use Rattle.std.proofs.lemmas.Result.{err_from_is_err_and}
 use Rattle.lines.specs.Fields.{fields}
-use Rattle.lines.proofs.Onward.{after, field_more, field_refused, fields_done, fields_surplus, after_none, fields_under}
+use Rattle.lines.proofs.Onward.{field_more, field_refused, fields_done, fields_surplus, after_none, fields_under}
 use Rattle.lines.proofs.fields.read_fields.Goals as goal
 
 pub loop-i-init : goal.loop-i-init

@@ -1,4 +1,4 @@
-use Rattle.std.proofs.Common.{List, [], ◌∷◌, ◌++◌, string_bytes, ap, ◌∙◌, append_assoc}
+use Rattle.std.proofs.Common.{[], ◌∷◌, ◌++◌, string_bytes, ap, ◌∙◌, append_assoc}
 use Rattle.listings.proofs.list.push_line.Goals as goal
 
 pub returns : goal.returns

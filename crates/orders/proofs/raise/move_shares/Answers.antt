@@ -28,5 +28,5 @@ returns g c =
     let reply = c.in_ok-entered.ensures.reply in
     let k = put_accepted s.size s.steps new c.in_ok-entered.entered reply in
     let steps = moved s.size s.steps ys a.number c.in_ok-entered.entered a.step new c.requires.step c.requires.held reply c.put.ensures.after a.shares _ c.take_out.ensures.steps in
-    raise_obeyed s a.seat a.number a.shares a.discount a.stamp c.in_ok-entered.entered _ a.step _ c.requires.tested k.1 k.2 c.requires.step c.requires.own_val steps
+    raise_obeyed s a.seat a.number a.shares a.discount a.stamp c.in_ok-entered.entered _ a.step _ c.requires.tested k.1 k.2 c.requires.step c.requires.own steps
     (c.take_out.ensures.size ∙ c.put.ensures.size)

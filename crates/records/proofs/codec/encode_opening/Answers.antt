@@ -1,4 +1,4 @@
-use Rattle.std.proofs.Common.{◌≡◌, ◌∷◌, ap, ◌∙◌, append-nil, arith, rules}
+use Rattle.std.proofs.Common.{◌∷◌, ap, ◌∙◌, append-nil, arith, rules}
 use Rattle.records.specs.Event.{opening}
 use Rattle.records.proofs.ReadBack.{keeps}
 use Rattle.records.proofs.codec.encode_opening.Goals as goal

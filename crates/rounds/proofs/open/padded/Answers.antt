@@ -1,6 +1,6 @@
 use Rattle.std.proofs.Common.{◌≡◌, ◌-◌, ◌++◌, map, length, take, replicate, ap, ◌∙◌, arith, length-set}
 use Rattle.std.proofs.lemmas.List.{take_all}
-use Rattle.rules.specs.Open.{fixed}
+use Rattle.rules.specs.Sales.{fixed}
 use Rattle.rounds.proofs.Rows.{pad_more}
 use Rattle.rounds.proofs.open.padded.Goals as goal
 

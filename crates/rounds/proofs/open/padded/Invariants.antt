@@ -1,5 +1,5 @@
 use Rattle.std.proofs.Common.{◌≡◌, ◌-◌, ◌++◌, map, length, take, replicate}
-use Rattle.rules.specs.Open.{fixed}
+use Rattle.rules.specs.Sales.{fixed}
 use Rattle.rounds.proofs.open.padded.Given as goal
 
 abbrev pub invariant-loop-place : goal.invariant-loop-place

@@ -1,6 +1,7 @@
 use Rattle.std.proofs.Common.{length, take, ap, ◌∙◌, arith, length-take}
 use Rattle.std.proofs.lemmas.List.{take_all}
-use Rattle.rules.specs.Sale.{run, replies}
+use Rattle.rules.specs.Parts.{replies}
+use Rattle.rules.specs.Sales.{run}
 use Rattle.sales.specs.State.{state_of}
 use Rattle.runs.specs.Calls.{call_of, calls_of}
 use Rattle.runs.proofs.Runs.{reply_for_each, one_reply_more, one_call_more}

@@ -1,5 +1,6 @@
 use Rattle.std.proofs.Common.{◌≡◌, ◌≤◌, length, take, vec_items, vec_capacity}
-use Rattle.rules.specs.Sale.{run, replies}
+use Rattle.rules.specs.Parts.{replies}
+use Rattle.rules.specs.Sales.{run}
 use Rattle.sales.specs.State.{state_of}
 use Rattle.runs.specs.Calls.{calls_of}
 use Rattle.runs.proofs.run.run_into.Given as goal

@@ -1,6 +1,6 @@
-use Rattle.std.proofs.Common.{◌≡◌, ℕ, ◌+◌, ◌*◌, ◌<◌, ◌≤◌, map, length, get_or, sym, ap, ◌∙◌, arith}
+use Rattle.std.proofs.Common.{◌+◌, ◌*◌, ◌≤◌, map, length, sym, ap, ◌∙◌, arith}
 use Rattle.std.proofs.lemmas.List.{get_or-map, length-map}
-use Rattle.records.specs.Event.{value_of, encoded, close, row_fits}
+use Rattle.records.specs.Event.{value_of, encoded, close}
 use Rattle.session_writer.proofs.Written.{written_none}
 use Rattle.session_writer.proofs.Sections.{part_more, part_all}
 use Rattle.session_writer.proofs.Wholes.{even_events, kept_fits}

@@ -1,7 +1,7 @@
 use Rattle.std.proofs.Common.{◌∙◌, arith}
 use Rattle.std.proofs.lemmas.List.{take_all}
 use Rattle.accounts.specs.Seated.{seated}
-use Rattle.rules.specs.Changeover.{carried}
+use Rattle.rules.specs.Sales.{carried}
 use Rattle.rules.proofs.Weights.{length_carried}
 use Rattle.starts.proofs.Carried.{carried_more}
 use Rattle.sale_parts.specs.State.{state_of}

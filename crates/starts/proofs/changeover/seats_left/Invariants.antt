@@ -1,6 +1,6 @@
 use Rattle.std.proofs.Common.{◌≡◌, take}
 use Rattle.accounts.specs.Seated.{seated}
-use Rattle.rules.specs.Changeover.{carried}
+use Rattle.rules.specs.Sales.{carried}
 use Rattle.sale_parts.specs.State.{state_of}
 use Rattle.starts.proofs.changeover.seats_left.Given as goal
 

@@ -1,6 +1,6 @@
 use Rattle.std.proofs.Common.{map, ap, ◌∙◌}
 use Rattle.std.proofs.lemmas.List.{take_all}
-use Rattle.rules.specs.Start.{dollars}
+use Rattle.rules.specs.Sales.{dollars}
 use Rattle.starts.proofs.start.seats_for.Goals as goal
 
 pub returns : goal.returns

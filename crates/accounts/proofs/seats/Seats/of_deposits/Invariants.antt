@@ -1,5 +1,5 @@
 use Rattle.std.proofs.Common.{◌≡◌, map, take}
-use Rattle.rules.specs.Start.{dollars}
+use Rattle.rules.specs.Sales.{dollars}
 use Rattle.accounts.specs.Seated.{seated}
 use Rattle.accounts.proofs.seats.Seats.of_deposits.Given as goal
 

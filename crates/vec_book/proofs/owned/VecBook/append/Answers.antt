@@ -1,4 +1,4 @@
-use Rattle.std.proofs.Common.{ap, ◌∙◌, rules}
+use Rattle.std.proofs.Common.{ap, ◌∙◌}
 use Rattle.steps.specs.declared.record.StepRecord.{StepRecord}
 use Rattle.vec_book.proofs.Rows.{row_more}
 use Rattle.vec_book.proofs.owned.VecBook.append.Goals as goal
