@@ -1,13 +1,10 @@
 -- A small sale, computed: 60 and 60 at two discounts, a raise, a second closing, and a changeover.
-use Rattle.std.proofs.Common.{◌≡◌, ℕ, ◌+◌, ◌-◌, Bool, true, false, cond, eqb, ltb, leb, List, [], ◌∷◌, map, Some, None, Ok, Err, Option, refl}
+use Rattle.std.proofs.Common.{◌≡◌, cond, eqb, ltb, leb, List, [], ◌∷◌, map, refl}
 use Rattle.sheets.specs.Figures.{Figures}
-use Rattle.steps.specs.declared.record.Bid.{Bid}
 use Rattle.steps.specs.declared.record.StepRecord.{StepRecord}
 use Rattle.rules.specs.Books.{ahead, won}
-use Rattle.rules.specs.declared.account.Account.{Account}
-use Rattle.rules.specs.declared.answer.Answer.TheVariants.{Told, Closed}
-use Rattle.rules.specs.Sales.{State, fresh, account, Call, start, changeover, opening, enter, raise, close, tests, done, answer, reply, after, run}
-use Rattle.rules.specs.Tallies.{Tally, blank, tally, heard, gets}
+use Rattle.rules.specs.Sales.{State, fresh, Call, start, opening, enter, raise, close, tests, done, answer, run}
+use Rattle.rules.specs.Tallies.{blank, tally, heard, gets}
 
 abbrev sheet : Figures
 sheet = record { markets = 1; openings = 2; percent = λ r. cond (ltb 0 r) (cond (leb r 2) 50 0) 0; weight = λ m. cond (eqb m 1) 10 0 }

@@ -1,15 +1,15 @@
 -- What every step of a sale's book keeps to, from call to call.
-use Rattle.std.proofs.Common.{◌≡◌, ℕ, zero, suc, ◌+◌, ◌-◌, ◌*◌, ◌<◌, ◌≤◌, min, Bool, true, false, cond, ◌&&◌, ◌||◌, eqb, ltb, leb, ◌⊎◌, List, [], ◌∷◌, ◌++◌, map, length, get_or, set, Some, None, Option, sym, refl, ap, ◌∙◌, subst, inl, inr, arith}
-use Rattle.std.proofs.lemmas.Bool.{eqb-true, eqb-false, eq-eqb, and_parts, ltb-true, ltb-false, both_ways, cases_lt}
-use Rattle.rules.specs.Lists.{total, In}
+use Rattle.std.proofs.Common.{◌≡◌, ℕ, ◌+◌, ◌-◌, ◌<◌, ◌≤◌, Bool, true, false, cond, ◌&&◌, eqb, ltb, ◌⊎◌, List, [], ◌∷◌, ◌++◌, map, length, get_or, set, Some, None, Option, sym, refl, ap, ◌∙◌, subst, inl, inr, arith}
+use Rattle.std.proofs.lemmas.Bool.{eqb-true, and_parts, ltb-true, ltb-false, both_ways, cases_lt}
+use Rattle.rules.specs.Lists.{In}
 use Rattle.steps.specs.declared.record.Bid.{Bid}
 use Rattle.steps.specs.declared.record.StepRecord.{StepRecord}
 use Rattle.steps.specs.Rule.{no_step}
 use Rattle.rules.specs.Books.{ahead, front, bid_of, standing_of, won, rejects, wins, hands, settled, lower, least, of_market}
 use Rattle.rules.specs.Sales.{missing, short, less}
-use Rattle.rules.specs.Tallies.{Tally, Entry, entry_bid, entry_shares, gets}
+use Rattle.rules.specs.Tallies.{Tally, entry_bid, entry_shares, gets}
 use Rattle.rules.specs.Fair.{entry_of}
-use Rattle.rules.proofs.Totals.{total_le, total_same, total_push, total_set, total_map, in_push, in_set, in_at, in_map, map_in, map_same, map_map}
+use Rattle.rules.proofs.Totals.{total_same, total_push, total_set, total_map, in_push, in_set, in_at, in_map, map_same, map_map}
 use Rattle.rules.proofs.Ranks.{ahead_self, ahead_by_discount, ahead_market, front_le, front_same, front_step, either, same_share, gone_by, Numbered, numbered_map, handed_most}
 
 -- what a step's entry has

@@ -1,23 +1,21 @@
 -- What a sale and its tally keep to from call to call.
-use Rattle.std.proofs.Common.{◌≡◌, ℕ, zero, suc, ◌+◌, ◌-◌, ◌*◌, ◌<◌, ◌≤◌, min, Bool, true, false, cond, not, ◌||◌, eqb, ltb, leb, ◌⊎◌, List, [], ◌∷◌, ◌++◌, map, length, get_or, set, replicate, Some, None, Ok, Err, Option, sym, refl, ap, ◌∙◌, subst, inl, inr, arith, length-set}
+use Rattle.std.proofs.Common.{◌≡◌, ℕ, zero, suc, ◌+◌, ◌-◌, ◌*◌, ◌<◌, ◌≤◌, Bool, true, false, cond, eqb, ltb, leb, ◌⊎◌, List, [], ◌∷◌, ◌++◌, map, length, get_or, set, replicate, None, Ok, Err, sym, refl, ap, ◌∙◌, subst, inl, inr, arith, length-set}
 use lib.ListN.{length-map}
-use Rattle.std.proofs.lemmas.List.{nil_from_length, length_push, map_push, map-set, get_or-map}
-use Rattle.std.proofs.lemmas.Bool.{eqb-true, eqb-false, ltb-true, ltb-false, leb-false, both_ways, or_parts, not-false, cases_lt}
-use Rattle.rules.specs.Lists.{total, In, listed}
+use Rattle.std.proofs.lemmas.List.{nil_from_length, map_push, map-set, get_or-map}
+use Rattle.std.proofs.lemmas.Bool.{eqb-true, eqb-false, ltb-false, leb-false, both_ways, or_parts, not-false}
+use Rattle.rules.specs.Lists.{In, listed}
 use Rattle.sheets.specs.Figures.{Figures, Lawful}
-use Rattle.steps.specs.declared.record.Bid.{Bid}
 use Rattle.steps.specs.declared.record.StepRecord.{StepRecord}
 use Rattle.steps.specs.Rule.{no_step}
-use Rattle.rules.specs.Books.{bid_of, standing_of, won, rejects, hands, settled, least, weighted, of_market}
+use Rattle.rules.specs.Books.{bid_of, standing_of, rejects, hands, least, weighted}
 use Rattle.rules.specs.declared.account.Account.{Account}
-use Rattle.rules.specs.declared.answer.Answer.TheVariants.{Told, Closed}
-use Rattle.rules.specs.Sales.{State, fresh, nobody, account, step_at, increment, clearing_at, standing_weight, won_in, outside, taken, missing, short, less, new_step, dollars, fixed, padded, next_round, lapses, carried, settled_steps, Call, start, changeover, opening, enter, raise, close, Test, tests, Verdict, passed, failed, unless, verdict_of, verdict, done, answer, by_verdict, reply, after, run}
-use Rattle.rules.specs.Tallies.{Tally, Entry, blank, heard, noted, tally, gets, no_entry, new_entry, fewer}
-use Rattle.rules.specs.Fair.{entry_of, Seated}
+use Rattle.rules.specs.Sales.{State, fresh, nobody, account, increment, clearing_at, standing_weight, won_in, outside, taken, short, less, new_step, dollars, fixed, next_round, carried, settled_steps, Call, start, changeover, opening, enter, raise, close, Test, tests, Verdict, passed, failed, unless, verdict_of, verdict, done, answer, by_verdict, reply, after, run}
+use Rattle.rules.specs.Tallies.{Tally, Entry, blank, heard, noted, tally, no_entry, new_entry, fewer}
+use Rattle.rules.specs.Fair.{entry_of}
 use Rattle.rules.proofs.Totals.{total_push, in_push, in_set, in_at, in_map, listed_at}
 use Rattle.rules.proofs.Ranks.{Numbered, numbered_map, numbered_push, numbered_set}
-use Rattle.rules.proofs.Fits.{Above, Fit, EachFits, entered_fit, raised_fit, closed_fit, closed_entries, closed_won, closed_market}
-use Rattle.rules.proofs.Weights.{weighted_won, weighted_closed, weighted_raised, owed_most, lapses_now, lapses_bought, length_lapses, carried_bought, carried_now, length_carried, dollars_now, fixed_some}
+use Rattle.rules.proofs.Fits.{Above, Fit, EachFits, entered_fit, raised_fit, closed_fit, closed_entries}
+use Rattle.rules.proofs.Weights.{weighted_closed, weighted_raised, owed_most, lapses_now, lapses_bought, carried_now, dollars_now, fixed_some}
 
 -- a sale that has not begun
 pub record Waiting (s : State) (t : Tally) : Type 0 where

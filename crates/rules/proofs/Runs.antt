@@ -1,17 +1,17 @@
 -- Every run is fair.
-use Rattle.std.proofs.Common.{◌≡◌, ℕ, zero, suc, ◌+◌, ◌-◌, ◌*◌, ◌<◌, ◌≤◌, Bool, true, false, not, eqb, ltb, ◌⊎◌, List, [], ◌∷◌, ◌++◌, map, length, get_or, sym, refl, ap, ◌∙◌, subst, inl, inr, arith}
+use Rattle.std.proofs.Common.{◌≡◌, ℕ, zero, suc, ◌+◌, ◌-◌, ◌*◌, ◌<◌, ◌≤◌, false, eqb, ◌⊎◌, List, [], ◌∷◌, ◌++◌, length, get_or, sym, refl, ap, ◌∙◌, subst, inl, inr, arith}
 use lib.ListN.{length-map}
 use Rattle.std.proofs.lemmas.Bool.{eqb-false, ltb-false, both_ways, not-false, cases_lt}
 use Rattle.rules.specs.Lists.{In, All}
-use Rattle.sheets.specs.Figures.{Figures, Lawful}
+use Rattle.sheets.specs.Figures.{Lawful}
 use Rattle.steps.specs.declared.record.StepRecord.{StepRecord}
-use Rattle.rules.specs.Books.{standing_of, won, weighted, of_market, of_seat}
+use Rattle.rules.specs.Books.{won, of_seat}
 use Rattle.rules.specs.Sales.{State, fresh, nobody, account, clearing_at, standing_weight, won_in, dollars, lapses, carried, settled_steps, Call, start, changeover, opening, enter, raise, close, tests, Verdict, passed, failed, verdict, done, by_verdict, after, run}
 use Rattle.rules.specs.Tallies.{Tally, blank, noted, tally}
-use Rattle.rules.specs.Fair.{Seated, Kept, WonAsTallied, FairRun, RunsFair, RealCall, Real, Shared, ChangeoversFair, RunsAreFair, new_sale, Reached, Shares, FairOutcome, StaysFair}
+use Rattle.rules.specs.Fair.{Seated, WonAsTallied, FairRun, RunsFair, RealCall, Real, Shared, ChangeoversFair, RunsAreFair, new_sale, Reached, Shares, FairOutcome, StaysFair}
 use Rattle.rules.proofs.Fits.{closed_won, closed_market}
 use Rattle.rules.proofs.Weights.{weighted_won, one_market, lapses_now, lapses_bought, length_lapses, carried_bought, length_carried}
-use Rattle.rules.proofs.Phases.{Waiting, Going, Phase, Passed, all_pass, inside, free, closes, stays, stays_run, waits}
+use Rattle.rules.proofs.Phases.{Going, Phase, Passed, all_pass, inside, free, closes, stays, stays_run, waits}
 
 -- what stays while a sale has a seat
 record Steady (s s' : State) : Type 0 where

@@ -1,15 +1,14 @@
 -- Weighted sums of a seat's shares, from call to call.
-use Rattle.std.proofs.Common.{◌≡◌, ℕ, zero, suc, ◌+◌, ◌-◌, ◌*◌, ◌/◌, ◌<◌, ◌≤◌, min, Bool, true, false, cond, eqb, ltb, ◌⊎◌, List, [], ◌∷◌, ◌++◌, map, length, get_or, set, sym, refl, ap, ◌∙◌, subst, inl, inr, mul-le-mul_right, mul_comm, add-mul, mul-add, arith}
+use Rattle.std.proofs.Common.{◌≡◌, ℕ, zero, suc, ◌+◌, ◌-◌, ◌*◌, ◌<◌, ◌≤◌, Bool, true, false, cond, eqb, List, [], ◌∷◌, ◌++◌, map, length, get_or, set, sym, refl, ap, ◌∙◌, inl, inr, mul-le-mul_right, mul_comm, add-mul, mul-add, arith}
 use Rattle.std.proofs.lemmas.Bool.{eqb-true, ltb-false}
-use Rattle.rules.specs.Lists.{total, In}
+use Rattle.rules.specs.Lists.{In}
 use Rattle.sheets.specs.Figures.{Figures, Lawful}
-use Rattle.steps.specs.declared.record.Bid.{Bid}
 use Rattle.steps.specs.declared.record.StepRecord.{StepRecord}
 use Rattle.steps.specs.Rule.{no_step}
-use Rattle.rules.specs.Books.{bid_of, standing_of, won, rejects, hands, settled, weighted, of_seat}
+use Rattle.rules.specs.Books.{standing_of, won, rejects, hands, settled, weighted, of_seat}
 use Rattle.rules.specs.declared.account.Account.{Account}
-use Rattle.rules.specs.Sales.{State, nobody, dollars, fixed, less, owed, lapsed, lapses, carried, standing_weight}
-use Rattle.rules.proofs.Totals.{total_le, total_same, total_push, total_set, total_map}
+use Rattle.rules.specs.Sales.{State, nobody, dollars, fixed, less, owed, lapses, carried, standing_weight}
+use Rattle.rules.proofs.Totals.{total_le, total_push, total_set, total_map}
 
 module _ (w : ℕ → ℕ) (k : ℕ) where
   times_le : (t : Bool) (m n c : ℕ) → m ≤ n → cond t (m * c) 0 ≤ cond t (n * c) 0

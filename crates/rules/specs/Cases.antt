@@ -1,6 +1,5 @@
 -- Worked cases of the rules, and three misreadings that they shut out.
 use Rattle.std.specs.Prelude.{◌≡◌, ℕ, Bool, true, false, List, [], ◌∷◌, map, Some, Err}
-use Rattle.sheets.specs.Figures.{Figures}
 use Rattle.sheets.specs.Phases.{full_term, single_year}
 use Rattle.steps.specs.declared.record.StepRecord.{StepRecord}
 use Rattle.rules.specs.declared.account.Account.{Account}

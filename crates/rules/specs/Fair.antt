@@ -1,10 +1,10 @@
 -- What is proved of every run of a sale.
-use Rattle.std.specs.Prelude.{◌≡◌, ℕ, zero, suc, ◌+◌, ◌<◌, ◌≤◌, Bool, List, [], ◌∷◌, ◌++◌, map, length}
+use Rattle.std.specs.Prelude.{◌≡◌, ℕ, zero, suc, ◌+◌, ◌<◌, ◌≤◌, List, ◌∷◌, ◌++◌, map, length}
 use Rattle.rules.specs.Lists.{All}
 use Rattle.sheets.specs.Figures.{Figures, Lawful}
 use Rattle.steps.specs.declared.record.StepRecord.{StepRecord}
 use Rattle.rules.specs.Books.{won, of_market, weighted}
-use Rattle.rules.specs.Sales.{State, fresh, account, standing_weight, won_in, Call, start, changeover, opening, enter, raise, close, verdict, Verdict, passed, after, run}
+use Rattle.rules.specs.Sales.{State, fresh, account, standing_weight, won_in, Call, start, changeover, opening, enter, raise, close, verdict, passed, after, run}
 use Rattle.rules.specs.Tallies.{Tally, Entry, blank, tally, gets}
 
 abbrev pub entry_of : StepRecord → Entry

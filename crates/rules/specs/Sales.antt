@@ -1,5 +1,5 @@
 -- A sale, its calls, and for each call the tests in their order, the answer, and what it leaves.
-use Rattle.std.specs.Prelude.{◌≡◌, ℕ, suc, ◌+◌, ◌-◌, ◌*◌, ◌/◌, ◌^◌, min, Bool, true, false, cond, not, ◌&&◌, ◌||◌, ltb, List, [], ◌∷◌, ◌++◌, map, length, replicate, Some, None, Ok, Err, Option, Result, ◌==◌, nat_le, nat_lt, slice_index, slice_index_or, slice_set}
+use Rattle.std.specs.Prelude.{ℕ, suc, ◌+◌, ◌-◌, ◌*◌, ◌/◌, ◌^◌, min, Bool, true, false, cond, not, ◌&&◌, ◌||◌, ltb, List, [], ◌∷◌, ◌++◌, map, length, replicate, Some, None, Ok, Err, Option, Result, ◌==◌, nat_le, nat_lt, slice_index, slice_index_or, slice_set}
 use Rattle.steps.specs.declared.fault.BookFault.TheVariants.{Full, NoStep}
 use Rattle.rules.specs.declared.account.Account.{Account}
 use Rattle.rules.specs.declared.answer.Answer.{Answer}
@@ -8,7 +8,6 @@ use Rattle.rules.specs.declared.fault.SaleFault.{SaleFault}
 use Rattle.rules.specs.declared.fault.SaleFault.TheVariants.{Book, SeatCount, DepositSize, Taken, SaleEnded, RoundOpen, RowLength, IncrementSize, RoundShut, NoSeat, NoMarket, ShareCount, DiscountSize, StampBehind, EntryOver, NotEligible, OtherSeat, RaiseShares, NoClearing, LowRaise, FirstGoing, FirstMarkets, NothingLeft}
 use Rattle.rules.specs.Lists.{total, any, listed}
 use Rattle.sheets.specs.Figures.{Figures}
-use Rattle.steps.specs.declared.record.Bid.{Bid}
 use Rattle.steps.specs.declared.record.StepRecord.{StepRecord}
 use Rattle.steps.specs.Rule.{no_step}
 use Rattle.rules.specs.Books.{won, rejects, settled, least, weighted, of_seat, standing_of}

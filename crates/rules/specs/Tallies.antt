@@ -1,5 +1,5 @@
 -- The tally, which hears the calls and the replies and knows nothing of the sale.
-use Rattle.std.specs.Prelude.{ℕ, suc, ◌+◌, ◌-◌, min, Bool, List, [], ◌∷◌, ◌++◌, length, Ok, Err, Result, slice_index_or, slice_set}
+use Rattle.std.specs.Prelude.{ℕ, suc, ◌-◌, min, List, [], ◌∷◌, ◌++◌, length, Ok, Err, Result, slice_index_or, slice_set}
 use Rattle.steps.specs.declared.record.Bid.{Bid}
 use Rattle.steps.specs.Rule.{no_bid}
 use Rattle.rules.specs.declared.answer.Answer.{Answer}

@@ -1,5 +1,5 @@
 //! A third sheet, for tests.
-ghost use Rattle.std.specs.Prelude.{if_then_else_, nat_eq};
+ghost use Rattle.std.specs.Prelude.{if◌then◌else◌, nat_eq};
 ghost use Rattle.std.proofs.Common.{rules};
 
 use sheets::PhaseSheet;

@@ -1,5 +1,5 @@
 -- A file that is listed and made again is the same.
-use Rattle.std.proofs.Common.{◌≡◌, ℕ, ◌≤◌, List, [], ◌++◌, map, length, Ok, Err, vec_items, Result, Vec, sym, refl, ap, ◌∙◌, arith, MatchResult}
+use Rattle.std.proofs.Common.{◌≡◌, ℕ, ◌≤◌, List, [], length, Ok, Err, Result, Vec, refl, ap, ◌∙◌, arith}
 use Rattle.std.specs.List.{AllByRecursion as All}
 use Rattle.std.specs.declared.alloc.Global.{Global}
 use Rattle.records.specs.Event.{EventValue}
@@ -9,7 +9,6 @@ use Rattle.sessions.specs.Layout.{size_of}
 use Rattle.session_writer.specs.Writing.{session_bytes}
 use Rattle.session_texts.specs.declared.fault.MakeFault.{MakeFault}
 use Rattle.session_texts.specs.declared.fault.MakeFault.TheVariants.{Line, Memory}
-use Rattle.session_texts.specs.Lines.{lines_of}
 use Rattle.session_texts.specs.Records.{events_in, file_size, file_of}
 use Rattle.session_texts.specs.Told.{told, heard_all}
 use Rattle.session_texts.specs.Drafts.{MadeFrom}

@@ -1,5 +1,5 @@
 -- The file of deposits and events whose rows fit.
-use Rattle.std.proofs.Common.{◌≡◌, ℕ, ◌+◌, ◌*◌, ◌≤◌, true, List, [], ◌∷◌, ◌++◌, map, length, take, drop, Ok, Err, sym, refl, ap, ◌∙◌, arith}
+use Rattle.std.proofs.Common.{◌≡◌, ℕ, ◌+◌, ◌*◌, ◌≤◌, true, List, [], ◌∷◌, ◌++◌, map, length, take, Ok, Err, sym, refl, ap, ◌∙◌, arith}
 use Rattle.std.proofs.lemmas.Bool.Decides.{nat_tests}
 use Rattle.std.specs.List.{flat_map, AllByRecursion as All}
 use Rattle.std.proofs.lemmas.List.{length-append, length-map, take_at, drop_all, append-nil}
@@ -8,10 +8,10 @@ use Rattle.records.specs.declared.event.Event.{Event}
 use Rattle.records.specs.Bytes.{bytes_of}
 use Rattle.records.specs.Event.{EventValue, value_of, opening, new_step, raise, close, changeover, encoded, row_fits}
 use Rattle.lines.specs.Record.{Record, deposit, event}
-use Rattle.sessions.specs.Layout.{header_of, size_of}
+use Rattle.sessions.specs.Layout.{size_of}
 use Rattle.sessions.specs.Reading.{next}
 use Rattle.session_texts.specs.Records.{file_size, deposits_in, events_in}
-use Rattle.session_writer.specs.Writing.{written, room_for, rows_fit, session_fits, session_bytes, session_put}
+use Rattle.session_writer.specs.Writing.{written, room_for, rows_fit, session_bytes, session_put}
 
 abbrev pub AllFit : List EventValue → Type 0
 AllFit vs = All (λ e. row_fits e ≡ true) vs

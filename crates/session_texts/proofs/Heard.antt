@@ -1,17 +1,16 @@
 -- The lines of records that come in time and fit are all heard.
-use Rattle.std.proofs.Common.{◌≡◌, ℕ, ◌+◌, ◌≤◌, Bool, true, false, cond, not, ◌&&◌, ◌||◌, eqb, leb, List, [], ◌∷◌, ◌++◌, map, Ok, sym, refl, ap, ◌∙◌, append_assoc, arith}
+use Rattle.std.proofs.Common.{◌≡◌, ℕ, ◌+◌, ◌≤◌, true, false, eqb, leb, List, [], ◌∷◌, ◌++◌, map, Ok, sym, refl, ap, ◌∙◌, append_assoc, arith}
 use Rattle.std.proofs.lemmas.Bool.Decides.{nat_tests}
 use Rattle.std.specs.List.{flat_map, AllByRecursion as All}
 use Rattle.std.proofs.lemmas.List.{append-nil}
 use Rattle.records.specs.Event.{EventValue}
 use Rattle.lines.specs.Record.{Record, deposit, event, Fits}
-use Rattle.lines.specs.Parsed.{parsed}
 use Rattle.lines.specs.Shown.{shown_record, OneLine}
 use Rattle.lines.proofs.Back.{line_back, no_newline}
 use Rattle.listings.specs.Texts.{ended_line}
 use Rattle.session_texts.specs.Lines.{lines_of, on_first}
-use Rattle.session_texts.specs.Records.{record_size, file_size, is_event, has_event, deposits_in, events_in}
-use Rattle.session_texts.specs.Told.{late, added, heard, heard_from, heard_all, told}
+use Rattle.session_texts.specs.Records.{record_size, file_size, has_event, deposits_in, events_in}
+use Rattle.session_texts.specs.Told.{late, heard, heard_from, heard_all}
 use Rattle.session_texts.specs.Again.{records_from}
 use Rattle.session_texts.proofs.Drafts.{file_size_push, has_event_append}
 

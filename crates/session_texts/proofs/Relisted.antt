@@ -1,5 +1,5 @@
 -- The listing of a file in the standard layout is the text of its records.
-use Rattle.std.proofs.Common.{◌≡◌, ℕ, zero, suc, ◌+◌, ◌*◌, ◌^◌, ◌<◌, ◌≤◌, true, false, eqb, ltb, List, [], ◌∷◌, ◌++◌, map, length, get_or, take, Ok, Err, Result, sym, refl, ap, ◌∙◌, subst, append_assoc, add-one, arith}
+use Rattle.std.proofs.Common.{◌≡◌, ℕ, zero, suc, ◌+◌, ◌^◌, ◌<◌, ◌≤◌, true, false, eqb, ltb, List, [], ◌∷◌, ◌++◌, map, length, get_or, take, Ok, sym, refl, ap, ◌∙◌, subst, append_assoc, add-one, arith}
 use Rattle.std.proofs.lemmas.Bool.Decides.{nat_tests}
 use Rattle.std.specs.List.{flat_map, AllByRecursion as All}
 use Rattle.std.proofs.lemmas.List.{append-nil, take_more, take_all, flat_map_more}
@@ -9,9 +9,9 @@ use Rattle.records.proofs.ReadBack.{keeps}
 use Rattle.lines.specs.Record.{Record, deposit, event, line_of, Fits}
 use Rattle.lines.specs.Shown.{shown_record}
 use Rattle.listings.specs.Texts.{ended_line, up_to}
-use Rattle.listings.specs.Listed.{record_line, line_or, record_in, section_lines, listed, listed_or}
-use Rattle.sessions.specs.Layout.{size_of, count}
-use Rattle.sessions.specs.Reading.{opened, admitted, count_in, deposit_at, event_at, next, of_number}
+use Rattle.listings.specs.Listed.{record_line, line_or, section_lines, listed, listed_or}
+use Rattle.sessions.specs.Layout.{size_of}
+use Rattle.sessions.specs.Reading.{admitted, count_in, next, of_number}
 use Rattle.session_writer.specs.Writing.{session_bytes}
 use Rattle.session_writer.specs.RoundTrip.{SessionIn, AllKept}
 use Rattle.session_writer.proofs.Wholes.{session_in}

@@ -30,11 +30,12 @@ fn the_first_line_at_fault_is_named(rt: HostRuntime) -> Result<(), Fail> {
 #[test]
 fn a_last_line_needs_no_newline(rt: HostRuntime) -> Result<(), Fail> {
     let file = make_session(rt.alloc(), b"deposit 258")?;
-    assert!(rt;
-        file.as_slice()
-            == [
-                83, 79, 83, 65, 0, 1, 0, 0, 0, 0, 0, 16, 0, 0, 0, 20, 0, 0, 1, 2,
-            ]
+    assert_eq!(rt;
+        file.as_slice(),
+        [
+            83, 79, 83, 65, 0, 1, 0, 0, 0, 0, 0, 16, 0, 0, 0, 20, 0, 0, 1, 2,
+        ]
+        .as_slice()
     );
     Ok(())
 }
@@ -42,7 +43,10 @@ fn a_last_line_needs_no_newline(rt: HostRuntime) -> Result<(), Fail> {
 #[test]
 fn a_text_without_records_makes_a_header(rt: HostRuntime) -> Result<(), Fail> {
     let file = make_session(rt.alloc(), b"")?;
-    assert!(rt; file.as_slice() == [83, 79, 83, 65, 0, 0, 0, 0, 0, 0, 0, 16, 0, 0, 0, 16]);
+    assert_eq!(rt;
+        file.as_slice(),
+        [83, 79, 83, 65, 0, 0, 0, 0, 0, 0, 0, 16, 0, 0, 0, 16].as_slice()
+    );
     Ok(())
 }
 
