@@ -1,6 +1,6 @@
 -- How a line is written: words with one space between.
 use Rattle.std.specs.Prelude.{◌≡◌, ℕ, List, [], ◌∷◌, ◌++◌, Some, Ok, codes, decimal, ◌≢◌}
-use Rattle.std.specs.List.{AllByRecursion as All}
+use Rattle.std.specs.List.{AllByRecursion}
 use Rattle.records.specs.Event.{opening, new_step, raise, close, changeover}
 use Rattle.lines.specs.Record.{Record, deposit, event}
 use Rattle.lines.specs.Row.{increments}
@@ -35,7 +35,7 @@ shown_record r = first_word r ++ listed (numbers_of r)
 
 -- a text that stays on one line: no byte of it is a newline
 abbrev pub OneLine : List ℕ → Type 0
-OneLine bs = All (λ b. b ≢ 10) bs
+OneLine bs = AllByRecursion (λ b. b ≢ 10) bs
 
 -- a record's own text, which stays on its line and is parsed back to what it says
 pub record Written (bs : List ℕ) (r : Record) : Type 0 where

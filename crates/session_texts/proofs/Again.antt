@@ -1,6 +1,6 @@
 -- A file that is listed and made again is the same.
 use Rattle.std.proofs.Common.{◌≡◌, ℕ, ◌≤◌, List, [], length, Ok, Err, Result, Vec, refl, ap, ◌∙◌, arith}
-use Rattle.std.specs.List.{AllByRecursion as All}
+use Rattle.std.specs.List.{AllByRecursion}
 use Rattle.std.specs.declared.alloc.Global.{Global}
 use Rattle.records.specs.Event.{EventValue}
 use Rattle.lines.specs.Record.{Fits}
@@ -17,7 +17,7 @@ use Rattle.session_texts.proofs.Files.{size_counted}
 use Rattle.session_texts.proofs.Heard.{lines_of_records, all_heard, in_time, deposits_from, events_from}
 use Rattle.session_texts.proofs.Relisted.{listed_text}
 
-module _ (ds : List ℕ) (es : List EventValue) (fit : All Fits (records_from ds es)) (small : size_of (length ds) (length es) ≤ 65536) where
+module _ (ds : List ℕ) (es : List EventValue) (fit : AllByRecursion Fits (records_from ds es)) (small : size_of (length ds) (length es) ≤ 65536) where
   size_within : file_size (records_from ds es) ≤ 65536
   size_within =
       let a = size_counted (records_from ds es) in

@@ -2,7 +2,7 @@
 use Rattle.std.proofs.Common.{◌≡◌, ℕ, ◌+◌, ◌<◌, ◌≤◌, true, List, [], ◌∷◌, ◌++◌, map, length, get_or, drop, Some, None, sym, refl, ap, ◌∙◌, subst, append_assoc}
 use Rattle.std.proofs.lemmas.List.{drop_more, drop_all, map_push, append-nil}
 use Rattle.std.specs.Option.{option_to_list}
-use Rattle.std.specs.List.{AllByRecursion as All}
+use Rattle.std.specs.List.{AllByRecursion}
 use Rattle.std.proofs.ByRecursion.{All-push}
 use Rattle.records.specs.declared.event.Event.{Event}
 use Rattle.records.specs.Event.{EventValue, value_of, row_fits}
@@ -56,7 +56,7 @@ none_left F nil ls i h done all p = sym (append-nil done) ∙ ap (λ xs. done ++
 
 -- one event more whose row fits
 abbrev pub RowsFit : List Event → Type 0
-RowsFit es = All (λ e. row_fits (value_of e) ≡ true) es
+RowsFit es = AllByRecursion (λ e. row_fits (value_of e) ≡ true) es
 
 pub rows_pushed : (done new : List Event) (e : Event) → new ≡ done ++ (e ∷ []) → RowsFit done → row_fits (value_of e) ≡ true → RowsFit new
 rows_pushed done new e n p q = subst RowsFit (sym n) (All-push (λ x. row_fits (value_of x) ≡ true) done e p q)

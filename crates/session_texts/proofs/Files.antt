@@ -1,7 +1,7 @@
 -- The file of deposits and events whose rows fit.
 use Rattle.std.proofs.Common.{◌≡◌, ℕ, ◌+◌, ◌*◌, ◌≤◌, true, List, [], ◌∷◌, ◌++◌, map, length, take, Ok, Err, sym, refl, ap, ◌∙◌, arith}
 use Rattle.std.proofs.lemmas.Bool.Decides.{nat_tests}
-use Rattle.std.specs.List.{flat_map, AllByRecursion as All}
+use Rattle.std.specs.List.{flat_map, AllByRecursion}
 use Rattle.std.proofs.lemmas.List.{length-append, length-map, take_at, drop_all, append-nil}
 use Rattle.faults.specs.declared.file.FileFault.{FileFault}
 use Rattle.records.specs.declared.event.Event.{Event}
@@ -14,7 +14,7 @@ use Rattle.session_texts.specs.Records.{file_size, deposits_in, events_in}
 use Rattle.session_writer.specs.Writing.{written, room_for, rows_fit, session_bytes, session_put}
 
 abbrev pub AllFit : List EventValue → Type 0
-AllFit vs = All (λ e. row_fits e ≡ true) vs
+AllFit vs = AllByRecursion (λ e. row_fits e ≡ true) vs
 
 encoded_long : (e : EventValue) → row_fits e ≡ true → length (encoded e) ≡ 16
 encoded_long (opening row) h = let n : length row ≡ 14 = grind (arith, nat_tests) in omega arith
@@ -56,12 +56,12 @@ module _ (ms ds : List ℕ) (vs : List EventValue) (fit : AllFit vs) (size : len
       ∙ ap (λ l. Ok (session_bytes ds vs ++ l)) (drop_all (length (session_bytes ds vs)) ms (omega (arith, length_session ds vs fit)))
       ∙ ap Ok (append-nil (session_bytes ds vs))
 
-pub rows_of_values : (es : List Event) → All (λ e. row_fits (value_of e) ≡ true) es → AllFit (map value_of es)
+pub rows_of_values : (es : List Event) → AllByRecursion (λ e. row_fits (value_of e) ≡ true) es → AllFit (map value_of es)
 rows_of_values [] h = tt
 rows_of_values (e ∷ es) h = (h.0, rows_of_values es h.1)
 
 -- what the writer leaves where all fits
-module _ (ms ds : List ℕ) (es : List Event) (size : ℕ) (long : length ms ≡ size) (sized : size ≡ size_of (length ds) (length es)) (small : size ≤ 65536) (rows : All (λ e. row_fits (value_of e) ≡ true) es) where
+module _ (ms ds : List ℕ) (es : List Event) (size : ℕ) (long : length ms ≡ size) (sized : size ≡ size_of (length ds) (length es)) (small : size ≤ 65536) (rows : AllByRecursion (λ e. row_fits (value_of e) ≡ true) es) where
   put_fits : session_put ms ds (map value_of es) ≡ Ok (session_bytes ds (map value_of es))
   put_fits = let n = length-map es value_of in session_is_file ms ds (map value_of es) (rows_of_values es rows) (omega arith) (omega arith)
 

@@ -1,7 +1,7 @@
 -- The lines of records that come in time and fit are all heard.
 use Rattle.std.proofs.Common.{◌≡◌, ℕ, ◌+◌, ◌≤◌, true, false, eqb, leb, List, [], ◌∷◌, ◌++◌, map, Ok, sym, refl, ap, ◌∙◌, append_assoc, arith}
 use Rattle.std.proofs.lemmas.Bool.Decides.{nat_tests}
-use Rattle.std.specs.List.{flat_map, AllByRecursion as All}
+use Rattle.std.specs.List.{flat_map, AllByRecursion}
 use Rattle.std.proofs.lemmas.List.{append-nil}
 use Rattle.records.specs.Event.{EventValue}
 use Rattle.lines.specs.Record.{Record, deposit, event, Fits}
@@ -25,7 +25,7 @@ line_first (b ∷ bs) text h =
 abbrev pub text_of : List Record → List ℕ
 text_of rs = flat_map (λ r. ended_line (shown_record r)) rs
 
-pub lines_of_records : (rs : List Record) → All Fits rs → lines_of (text_of rs) ≡ map shown_record rs ++ ([] ∷ [])
+pub lines_of_records : (rs : List Record) → AllByRecursion Fits rs → lines_of (text_of rs) ≡ map shown_record rs ++ ([] ∷ [])
 lines_of_records [] h = refl
 lines_of_records (r ∷ rs) h =
     ap lines_of (append_assoc (shown_record r) (10 ∷ []) (text_of rs))
@@ -45,7 +45,7 @@ abbrev pub InTime : List Record → List Record → Type 0
 InTime done [] = Unit {0}
 InTime done (r ∷ rs) = (late done r ≡ false) × InTime (done ++ (r ∷ [])) rs
 
-pub all_heard : (rs done : List Record) (n : ℕ) → InTime done rs → All Fits rs → file_size (done ++ rs) ≤ 65536 → heard_all n (map shown_record rs ++ ([] ∷ [])) done ≡ Ok (done ++ rs)
+pub all_heard : (rs done : List Record) (n : ℕ) → InTime done rs → AllByRecursion Fits rs → file_size (done ++ rs) ≤ 65536 → heard_all n (map shown_record rs ++ ([] ∷ [])) done ≡ Ok (done ++ rs)
 all_heard [] done n t f small = ap Ok (sym (append-nil done))
 all_heard (r ∷ rs) done n t f small =
     let a = file_size_append (done ++ (r ∷ [])) rs in

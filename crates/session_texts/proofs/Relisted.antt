@@ -1,7 +1,7 @@
 -- The listing of a file in the standard layout is the text of its records.
 use Rattle.std.proofs.Common.{◌≡◌, ℕ, zero, suc, ◌+◌, ◌^◌, ◌<◌, ◌≤◌, true, false, eqb, ltb, List, [], ◌∷◌, ◌++◌, map, length, get_or, take, Ok, sym, refl, ap, ◌∙◌, subst, append_assoc, add-one, arith}
 use Rattle.std.proofs.lemmas.Bool.Decides.{nat_tests}
-use Rattle.std.specs.List.{flat_map, AllByRecursion as All}
+use Rattle.std.specs.List.{flat_map, AllByRecursion}
 use Rattle.std.proofs.lemmas.List.{append-nil, take_more, take_all, flat_map_more}
 use Rattle.faults.specs.declared.section.Section.TheVariants.{Deposits, Events}
 use Rattle.records.specs.Event.{EventValue, opening, new_step, raise, close, changeover, encoded, row_fits, Sized}
@@ -57,23 +57,23 @@ has_line close h = refl
 has_line changeover h = refl
 
 -- what fits, by its place
-fits_deposit : (ds : List ℕ) (es : List EventValue) → All Fits (records_from ds es) → (k : ℕ) → get_or ds k 0 < 2 ^ 32
+fits_deposit : (ds : List ℕ) (es : List EventValue) → AllByRecursion Fits (records_from ds es) → (k : ℕ) → get_or ds k 0 < 2 ^ 32
 fits_deposit [] es h k = omega arith
 fits_deposit (d ∷ ds) es h zero = h.0
 fits_deposit (d ∷ ds) es h (suc k) = fits_deposit ds es h.1 k
 
-fits_event : (ds : List ℕ) (es : List EventValue) → All Fits (records_from ds es) → (k : ℕ) → Sized (get_or es k close)
+fits_event : (ds : List ℕ) (es : List EventValue) → AllByRecursion Fits (records_from ds es) → (k : ℕ) → Sized (get_or es k close)
 fits_event (d ∷ ds) es h k = fits_event ds es h.1 k
 fits_event [] [] h k = tt
 fits_event [] (e ∷ es) h zero = h.0.0
 fits_event [] (e ∷ es) h (suc k) = fits_event [] es h.1 k
 
-all_fit : (ds : List ℕ) (es : List EventValue) → All Fits (records_from ds es) → AllFit es
+all_fit : (ds : List ℕ) (es : List EventValue) → AllByRecursion Fits (records_from ds es) → AllFit es
 all_fit (d ∷ ds) es h = all_fit ds es h.1
 all_fit [] [] h = tt
 all_fit [] (e ∷ es) h = (sized_row_fits e h.0.0, all_fit [] es h.1)
 
-module _ (ds : List ℕ) (es : List EventValue) (fit : All Fits (records_from ds es)) (small : size_of (length ds) (length es) ≤ 65536) where
+module _ (ds : List ℕ) (es : List EventValue) (fit : AllByRecursion Fits (records_from ds es)) (small : size_of (length ds) (length es) ≤ 65536) where
   kept : AllKept es
   kept k h = (sized_row_fits (get_or es k close) (fits_event ds es fit k), keeps (encoded (get_or es k close)) (get_or es k close) (fits_event ds es fit k) refl)
 

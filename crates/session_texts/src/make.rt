@@ -1,6 +1,6 @@
 //! Makes the session file that a text tells.
 ghost use Rattle.std.specs.Prelude.{◌≡◌, ◌≤◌, true, map, length, IfOk};
-ghost use Rattle.std.specs.List.{AllByRecursion as All};
+ghost use Rattle.std.specs.List.{AllByRecursion};
 ghost use Rattle.records.specs.Event.{value_of, row_fits};
 ghost use Rattle.lines.specs.Record.{record_of};
 ghost use Rattle.sessions.specs.Layout.{size_of};
@@ -34,7 +34,7 @@ fn deposits_in(heap: Global, lines: &[Line]) -> Result<Vec<u32>, AllocError>
 // The events among these lines.
 fn events_in(heap: Global, lines: &[Line]) -> Result<Vec<Event<'_>>, AllocError>
     ensures value { IfOk result (λ v. map value_of v.items ≡ events_in (map record_of lines.now)) }
-    ensures rows { IfOk result (λ v. All (λ e. row_fits (value_of e) ≡ true) v.items) }
+    ensures rows { IfOk result (λ v. AllByRecursion (λ e. row_fits (value_of e) ≡ true) v.items) }
 {
     let mut events = Vec::new(heap);
     for line in lines {
@@ -55,7 +55,7 @@ fn file_of(
 ) -> Result<Vec<u8>, AllocError>
     requires size { size ≡ size_of (length deposits.now) (length events.now) }
     requires small { size ≤ 65536 }
-    requires rows { All (λ e. row_fits (value_of e) ≡ true) events.now }
+    requires rows { AllByRecursion (λ e. row_fits (value_of e) ≡ true) events.now }
     ensures { IfOk result (λ v. v.items ≡ session_bytes deposits.now (map value_of events.now)) }
 {
     let mut file = vec![in heap; 0; size]?;

@@ -1,5 +1,5 @@
 use Rattle.std.proofs.Common.{◌≡◌, true, List, map, sym, ap, ◌∙◌, subst}
-use Rattle.std.specs.List.{AllByRecursion as All}
+use Rattle.std.specs.List.{AllByRecursion}
 use Rattle.records.specs.declared.event.Event.{Event}
 use Rattle.records.specs.Event.{value_of, row_fits}
 use Rattle.lines.specs.Record.{record_of}
@@ -15,5 +15,5 @@ file_of-requires c =
     record {
       size = size_found (records_of c.args.self.now) _ _ _ c.args.self.now.sized ds es;
       small = c.args.self.now.small;
-      rows = subst (λ (xs : List Event). All (λ e. row_fits (value_of e) ≡ true) xs) (sym c.deref-4.ensures.value) c.in_ok-events.ensures.rows;
+      rows = subst (λ (xs : List Event). AllByRecursion (λ e. row_fits (value_of e) ≡ true) xs) (sym c.deref-4.ensures.value) c.in_ok-events.ensures.rows;
     }
