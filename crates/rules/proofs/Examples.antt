@@ -20,17 +20,17 @@ abbrev end : State
 end = run (fresh sheet 8 []) calls
 
 standings : map (λ (x : StepRecord). x.standing) end.steps ≡ (10 ∷ 60 ∷ 30 ∷ [])
-unfolding tests done ahead
+unfolding ahead
 standings = refl
 
 winnings : map won end.steps ≡ (10 ∷ 60 ∷ 30 ∷ [])
-unfolding tests done ahead
+unfolding ahead
 winnings = refl
 
 rejections : map (λ (x : StepRecord). x.rejected) end.steps ≡ (20 ∷ 0 ∷ 0 ∷ [])
-unfolding tests done ahead
+unfolding ahead
 rejections = refl
 
 tallied : map (gets (tally (fresh sheet 8 []) blank calls)) (tally (fresh sheet 8 []) blank calls).entries ≡ (10 ∷ 60 ∷ 30 ∷ [])
-unfolding tests done ahead answer heard
+unfolding ahead heard
 tallied = refl

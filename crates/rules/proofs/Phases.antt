@@ -149,7 +149,7 @@ pushed es xs e seat market shares discount stamp =
 
 enters : (s : State) (t : Tally) (seat market shares discount stamp : ℕ) → Going s t → Passed (tests s (enter seat market shares discount stamp)) →
     Going (done s (enter seat market shares discount stamp)) (heard t (suc (length s.steps)) (enter seat market shares discount stamp))
-unfolding tests done heard
+unfolding heard
 enters s t seat market shares discount stamp g p =
     let n = new_step s seat market shares discount stamp in
     let placed-new = inside market s.figures.markets p.1.1.0 in
@@ -198,7 +198,7 @@ moved_entry es xs e i shares discount stamp l enough =
 
 raises : (s : State) (t : Tally) (seat number shares discount stamp : ℕ) → Going s t → Passed (tests s (raise seat number shares discount stamp)) →
     Going (done s (raise seat number shares discount stamp)) (heard t (suc (length s.steps)) (raise seat number shares discount stamp))
-unfolding tests done heard
+unfolding heard
 raises s t seat number shares discount stamp g p =
     record {
       lawful = g.lawful;
@@ -252,7 +252,6 @@ raises s t seat number shares discount stamp g p =
     at_new z (inr e) = let q : z.bid.market ≡ x.bid.market = ap (λ v. v.bid.market) e in omega (arith, old_placed)
 
 pub closes : (s : State) (t : Tally) → Going s t → Going (done s close) t
-unfolding done
 closes s t g = record {
   lawful = g.lawful;
   same_lots = g.same_lots;
@@ -282,12 +281,12 @@ closes s t g = record {
         omega (arith, g.placed v.0 v.1)
 
 starts : (s : State) (t : Tally) (deposits : List ℕ) → Phase s t → Passed (tests s (start deposits)) → Going (done s (start deposits)) (heard t 100 (start deposits))
-unfolding tests done heard
+unfolding heard
 starts s t deposits ph p = begins s t 100 (map dollars deposits) ph p.1.1.0 (dollars_now deposits)
 
 changes : (s : State) (t : Tally) (first : State) → Phase s t → Passed (tests s (changeover first)) →
     Going (done s (changeover first)) (heard t (first.lots - won_in first) (changeover first))
-unfolding tests done heard
+unfolding heard
 changes s t first ph p = begins s t (first.lots - won_in first) (carried first 1 first.accounts) ph p.1.1.1.0 (carried_now first 1 first.accounts)
 
 padded_some : (row : List ℕ) (k j : ℕ) → j < length row → 1 ≤ get_or (map fixed row ++ replicate k 0) j 0
@@ -296,7 +295,7 @@ padded_some (n ∷ row) k zero h = fixed_some n
 padded_some (n ∷ row) k (suc j) h = padded_some row k j (omega arith)
 
 opens : (s : State) (t : Tally) (row : List ℕ) → length row ≡ s.figures.markets → Going s t → Going (done s (opening row)) (heard t (next_round s) (opening row))
-unfolding done heard
+unfolding heard
 opens s t row long g = record {
   lawful = g.lawful;
   same_lots = g.same_lots;
@@ -311,7 +310,6 @@ opens s t row long g = record {
 
 -- an accepted call leaves a sale that has begun
 accepted : (s : State) (t : Tally) (c : Call) → Phase s t → Passed (tests s c) → Going (done s c) (noted t c (Ok (answer s c)))
-unfolding tests answer
 accepted s t (start deposits) ph p = starts s t deposits ph p
 accepted s t (changeover first) ph p = changes s t first ph p
 accepted s t (opening row) (inl w) p = absurd (both_ways s.ended p.0 w.over)

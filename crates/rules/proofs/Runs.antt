@@ -29,7 +29,6 @@ same s s' h a l = record {
 }
 
 steady_done : (s : State) (c : Call) → Seated s → Passed (tests s c) → Steady s (done s c)
-unfolding tests done
 steady_done s (start deposits) h p = absurd (omega (arith, free s p.1.1.0))
 steady_done s (changeover first) h p = absurd (omega (arith, free s p.1.1.1.0))
 steady_done s (opening row) h p = same s (done s (opening row)) h refl refl
@@ -63,7 +62,6 @@ steady_run s (c ∷ cs) h =
 
 -- a sale that is open has begun
 going_open : (s : State) (t : Tally) → Phase s t → verdict s close ≡ passed → Going s t
-unfolding tests
 going_open s t (inl w) e = absurd (both_ways s.opened w.shut (not-false s.opened (all_pass (tests s close) e).0))
 going_open s t (inr g) e = g
 
@@ -72,7 +70,6 @@ going_seated s t (inl w) h = absurd (omega (arith, w.unseated))
 going_seated s t (inr g) h = g
 
 fair : (s : State) (t : Tally) → Phase s t → FairRun s t
-unfolding done
 fair s t ph = record {
   kept = λ h. let g = going_seated s t ph h in
       record { mirrored = g.mirrored; covered = g.covered; within = g.within; falls = λ c k. (steady s c h).now_falls k };
@@ -89,7 +86,6 @@ record Sound (s : State) : Type 0 where
   has_seat : 0 < s.lots → Seated s
 
 sound_done : (s : State) (c : Call) → Sound s → RealCall Sound c → Passed (tests s c) → Sound (done s c)
-unfolding tests done
 sound_done s (start deposits) h r p = record { few = omega arith; has_seat = λ _. omega (arith, length-map deposits dollars, inside (length deposits) 24 p.0) }
 sound_done s (changeover first) h r p = record { few = omega (arith, r.few); has_seat = λ l. omega (arith, length_carried first 1 first.accounts, r.has_seat (omega arith)) }
 sound_done s (opening row) h r p = record { few = h.few; has_seat = h.has_seat }
@@ -152,7 +148,6 @@ record Carried (first s : State) : Type 0 where
   bought_left : (k : ℕ) → (account s k).bought ≡ (account first k).bought - first.figures.weight 1 * of_seat (suc k) won first.steps
 
 carried_over : (s first : State) → verdict s (changeover first) ≡ passed → Carried first (after s (changeover first))
-unfolding tests done
 carried_over s first e =
     let p = all_pass (tests s (changeover first)) e in
     subst (λ v. Carried first (by_verdict v (done s (changeover first)) (λ _. s))) (sym e) (record {
@@ -165,7 +160,6 @@ carried_over s first e =
 
 -- a later closing, where the sale was carried over from first
 shared : (first s later : State) (t₁ t : Tally) → Sound first → Going first t₁ → Carried first s → Steady s later → Going later t → Shared first (done later close)
-unfolding done
 shared first s later t₁ t sound g₁ c st g = record {
   lots_shared = λ m. omega (arith, closed_market later.lots later.steps (clearing_at later) g.fit m g.numbered, st.lots_same, c.lots_left, c.left, sound.few);
   paid = λ k.
@@ -213,7 +207,6 @@ record SameSale (s s' : State) : Type 0 where
   size_same : s'.size ≡ s.size
 
 same_done : (s : State) (c : Call) → SameSale s (done s c)
-unfolding done
 same_done s (start deposits) = record { figures_same = refl; size_same = refl }
 same_done s (changeover first) = record { figures_same = refl; size_same = refl }
 same_done s (opening row) = record { figures_same = refl; size_same = refl }
@@ -248,7 +241,6 @@ shares s book calls l r earlier rest first n real e e₁ e₂ =
 
 -- a call adds one round at most
 rounds_done : (s : State) (c : Call) → (done s c).round ≤ s.round + 1
-unfolding done
 rounds_done s (start deposits) = omega arith
 rounds_done s (changeover first) = omega arith
 rounds_done s (opening row) = omega arith

@@ -5,7 +5,7 @@ use Rattle.rules.specs.Sales.{tests, done, answer}
 use Rattle.rules.proofs.cases_hold.Goals as goal
 
 pub returns : goal.returns
-unfolding ahead tests done answer
+unfolding ahead
 returns c =
     record {
       deposits_buy = refl;
