@@ -1,5 +1,5 @@
 -- One turn of the loop that rejects losing shares, its start and its end.
-use Rattle.std.proofs.Common.{◌≡◌, ℕ, ◌+◌, ◌-◌, ◌*◌, ◌<◌, ◌≤◌, Bool, true, false, cond, leb, List, map, length, get_or, set, sym, ap, ◌∙◌, arith}
+use Rattle.std.proofs.Common.{◌≡◌, ℕ, ◌+◌, ◌-◌, ◌<◌, ◌≤◌, true, false, cond, leb, List, map, length, get_or, set, sym, ap, ◌∙◌, arith}
 use Rattle.std.proofs.lemmas.List.{length-map, map-id, get_or-map}
 use Rattle.std.proofs.lemmas.Bool.{lt-leb, le-leb}
 use Rattle.std.proofs.lemmas.Bool.Decides.{nat_tests}
@@ -8,12 +8,11 @@ use Rattle.steps.specs.Rule.{no_step}
 use Rattle.books.specs.Replies.{at, held}
 use Rattle.books.proofs.After.{held_true}
 use Rattle.books.specs.Lawful.{SoundBelow}
-use Rattle.rules.specs.Lists.{total, In}
+use Rattle.rules.specs.Lists.{In}
 use Rattle.rules.specs.Books.{bid_of, rejects}
-use Rattle.rules.specs.Parts.{losing_of}
-use Rattle.rules.proofs.Totals.{map_same, total_same, total_none}
+use Rattle.rules.proofs.Totals.{map_same}
 use Rattle.rules.proofs.Ranks.{numbers_from}
-use Rattle.closing.proofs.Places.{sound_numbered, sound_number, sound_kept, each, map_one, total_one, total_most}
+use Rattle.closing.proofs.Places.{sound_numbered, sound_number, each, map_one}
 
 -- the losing shares of the step are rejected if its number is at most k
 abbrev rejects_to : ℕ → StepRecord → StepRecord
