@@ -1,4 +1,4 @@
-use Rattle.std.proofs.Common.{◌-◌, ◌∙◌, arith}
+use Rattle.std.proofs.Common.{◌∙◌, arith}
 use Rattle.accounts.specs.Seated.{seated}
 use Rattle.rounds.proofs.Cut.{cut_more, all_with}
 use Rattle.rounds.proofs.close.cut_seats.Goals as goal

@@ -1,4 +1,4 @@
-use Rattle.std.proofs.Common.{◌-◌, ◌≤◌, mul-le-mul, arith}
+use Rattle.std.proofs.Common.{◌≤◌, mul-le-mul, arith}
 use Rattle.starts.proofs.Carried.{nothing_left}
 use Rattle.sale_parts.specs.State.{state_of}
 use Rattle.starts.proofs.changeover.bought_left.Goals as goal
