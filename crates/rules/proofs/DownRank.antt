@@ -6,7 +6,7 @@ use Rattle.steps.specs.declared.record.Bid.{Bid}
 use Rattle.steps.specs.Rank.{before}
 use Rattle.rules.specs.Lists.{total, In}
 use Rattle.rules.specs.Books.{ahead, front}
-use Rattle.rules.specs.Parts.{ranked_in, in_rank, handed_down}
+use Rattle.rules.specs.DownRank.{ranked_in, in_rank, handed_down}
 use Rattle.rules.proofs.Totals.{total_none}
 use Rattle.rules.proofs.Ranks.{Numbered, numbers_from, transitive, total_order, ahead_self}
 

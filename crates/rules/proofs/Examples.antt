@@ -3,7 +3,7 @@ use Rattle.std.proofs.Common.{◌≡◌, cond, eqb, ltb, leb, List, [], ◌∷�
 use Rattle.sheets.specs.Figures.{Figures}
 use Rattle.steps.specs.declared.record.StepRecord.{StepRecord}
 use Rattle.rules.specs.Books.{ahead, won}
-use Rattle.rules.specs.Sales.{State, fresh, Call, start, opening, enter, raise, close, tests, done, answer, run}
+use Rattle.rules.specs.Sales.{State, fresh, Call, start, opening, enter, raise, close, run}
 use Rattle.rules.specs.Tallies.{blank, tally, heard, gets}
 
 abbrev sheet : Figures

@@ -10,6 +10,7 @@ use Rattle.steps.specs.Rule.{no_step}
 use Rattle.rules.specs.Books.{bid_of, standing_of, rejects, hands, least, weighted}
 use Rattle.rules.specs.declared.account.Account.{Account}
 use Rattle.rules.specs.Sales.{State, fresh, nobody, account, increment, clearing_at, standing_weight, won_in, outside, taken, short, less, new_step, dollars, fixed, next_round, carried, settled_steps, Call, start, changeover, opening, enter, raise, close, Test, tests, Verdict, passed, failed, unless, verdict_of, verdict, done, answer, by_verdict, reply, after, run}
+use Rattle.rules.specs.Parts.{begun}
 use Rattle.rules.specs.Tallies.{Tally, Entry, blank, heard, noted, tally, no_entry, new_entry, fewer}
 use Rattle.rules.specs.Fair.{entry_of}
 use Rattle.rules.proofs.Totals.{total_push, in_push, in_set, in_at, in_map, listed_at}
@@ -69,23 +70,6 @@ pub free : (s : State) → taken s ≡ false → (length s.accounts ≡ 0) × (l
 free s e =
     let p = or_parts (ltb 0 (length s.accounts)) (ltb 0 (length s.steps)) e in
     (omega (arith, ltb-false 0 (length s.accounts) p.0), omega (arith, ltb-false 0 (length s.steps) p.1))
-
--- a start of either kind
-abbrev begun : State → ℕ → List Account → State
-begun s n accounts = record {
-  figures = s.figures;
-  size = s.size;
-  steps = s.steps;
-  lots = n;
-  round = s.round;
-  opened = s.opened;
-  ended = false;
-  increments = s.increments;
-  clearing = s.clearing;
-  raised = s.raised;
-  last_stamp = s.last_stamp;
-  accounts = accounts;
-}
 
 empty : (xs : List StepRecord) → length xs ≡ 0 → (x : StepRecord) → In x xs → ⊥
 empty [] e x i = i

@@ -61,11 +61,11 @@ steady_run s (c ∷ cs) h =
     }
 
 -- a sale that is open has begun
-going_open : (s : State) (t : Tally) → Phase s t → verdict s close ≡ passed → Going s t
+pub going_open : (s : State) (t : Tally) → Phase s t → verdict s close ≡ passed → Going s t
 going_open s t (inl w) e = absurd (both_ways s.opened w.shut (not-false s.opened (all_pass (tests s close) e).0))
 going_open s t (inr g) e = g
 
-going_seated : (s : State) (t : Tally) → Phase s t → Seated s → Going s t
+pub going_seated : (s : State) (t : Tally) → Phase s t → Seated s → Going s t
 going_seated s t (inl w) h = absurd (omega (arith, w.unseated))
 going_seated s t (inr g) h = g
 
@@ -81,9 +81,9 @@ runs_fair : RunsFair
 runs_fair f l size book calls = fair (run (fresh f size book) calls) (tally (fresh f size book) blank calls) (stays_run (fresh f size book) blank calls (waits f size book l))
 
 -- a sale that is what a run leaves has a hundred lots at most, and a seat if it has any
-record Sound (s : State) : Type 0 where
-  few : s.lots ≤ 100
-  has_seat : 0 < s.lots → Seated s
+pub record Sound (s : State) : Type 0 where
+  pub few : s.lots ≤ 100
+  pub has_seat : 0 < s.lots → Seated s
 
 sound_done : (s : State) (c : Call) → Sound s → RealCall Sound c → Passed (tests s c) → Sound (done s c)
 sound_done s (start deposits) h r p = record { few = omega arith; has_seat = λ _. omega (arith, length-map deposits dollars, inside (length deposits) 24 p.0) }
@@ -112,11 +112,11 @@ real_call P Q f (enter seat market shares discount stamp) r = tt
 real_call P Q f (raise seat number shares discount stamp) r = tt
 real_call P Q f close r = tt
 
-real_calls : (P Q : State → Type 0) → ((s : State) → P s → Q s) → (cs : List Call) → All (RealCall P) cs → All (RealCall Q) cs
+pub real_calls : (P Q : State → Type 0) → ((s : State) → P s → Q s) → (cs : List Call) → All (RealCall P) cs → All (RealCall Q) cs
 real_calls P Q f [] r = tt
 real_calls P Q f (c ∷ cs) r = (real_call P Q f c r.0, real_calls P Q f cs r.1)
 
-real_sound : (n : ℕ) (s : State) → Real n s → Sound s
+pub real_sound : (n : ℕ) (s : State) → Real n s → Sound s
 real_sound zero s r = elim r [ ]
 real_sound (suc n) s r =
     subst Sound (sym r.6) (sound_run (fresh r.0 r.2 r.3) r.4 (record { few = omega arith; has_seat = λ l. absurd (omega arith) }) (real_calls (Real n) Sound (real_sound n) r.4 r.5))
@@ -132,7 +132,7 @@ going_lots : (s : State) (t : Tally) → Phase s t → 0 < s.lots → Going s t
 going_lots s t (inl w) h = absurd (omega (arith, w.no_lots))
 going_lots s t (inr g) h = g
 
-some_lots : (first : State) → eqb (first.lots - won_in first) 0 ≡ false → won_in first < first.lots
+pub some_lots : (first : State) → eqb (first.lots - won_in first) 0 ≡ false → won_in first < first.lots
 some_lots first e = go (cases_lt (won_in first) first.lots)
   where
     go : (won_in first < first.lots) ⊎ (first.lots ≤ won_in first) → won_in first < first.lots

@@ -2,8 +2,13 @@ pub mod Faults
 pub mod Lists
 pub mod Books
 pub mod Sales
+pub mod Parts
 pub mod Tallies
 pub mod Fair
+pub mod DownRank
+pub mod Accepted
+pub mod Rounds
 pub mod Bonds
 pub mod Cases
-pub mod Parts
+pub mod WorkedSales
+pub mod Edges

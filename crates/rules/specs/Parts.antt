@@ -1,37 +1,15 @@
 -- Parts of the rules under names of their own, for the code that is held to them.
-use Rattle.std.specs.Prelude.{ℕ, ◌+◌, ◌-◌, ◌*◌, min, Bool, true, false, cond, ◌&&◌, List, [], ◌∷◌, length, Result, ◌==◌, nat_lt}
+use Rattle.std.specs.Prelude.{ℕ, ◌+◌, ◌-◌, ◌*◌, Bool, true, false, List, [], ◌∷◌, length, Result, ◌==◌, nat_lt}
 use Rattle.sheets.specs.Figures.{Figures}
-use Rattle.steps.specs.declared.record.Bid.{Bid}
 use Rattle.steps.specs.declared.record.StepRecord.{StepRecord}
-use Rattle.steps.specs.Rank.{before}
 use Rattle.rules.specs.declared.account.Account.{Account}
 use Rattle.rules.specs.declared.answer.Answer.{Answer}
 use Rattle.rules.specs.declared.fault.SaleFault.{SaleFault}
-use Rattle.rules.specs.Lists.{total}
 use Rattle.rules.specs.Books.{standing_of, won, weighted, of_seat}
 use Rattle.rules.specs.Sales.{State, account, standing_weight, won_in, next_round, owed, lapsed, Call, close, done, reply, after}
 
 abbrev pub losing_of : StepRecord → ℕ
 losing_of x = x.losing
-
--- the sum of f over those of xs that are of the seat k and the market m
-abbrev pub of_both : {X : Type 0} → (X → Bid) → (X → ℕ) → ℕ → ℕ → List X → ℕ
-of_both bid f k m xs = total (λ y. cond ((bid y).seat == k && (bid y).market == m) (f y) 0) xs
-
--- x goes into a ranked list in front of the first that it ranks before
-abbrev pub ranked_in : {X : Type 0} → (X → Bid) → X → List X → List X
-ranked_in bid x [] = x ∷ []
-ranked_in bid x (y ∷ ys) = cond (before (bid x) (bid y)) (x ∷ y ∷ ys) (y ∷ ranked_in bid x ys)
-
--- those of xs that are of the market m, in rank
-abbrev pub in_rank : {X : Type 0} → (X → Bid) → ℕ → List X → List X
-in_rank bid m [] = []
-in_rank bid m (x ∷ xs) = cond ((bid x).market == m) (ranked_in bid x (in_rank bid m xs)) (in_rank bid m xs)
-
--- lots go down a ranked list: each gets the lesser of its f and the lots left. What the one of the number n gets
-abbrev pub handed_down : {X : Type 0} → (X → Bid) → (X → ℕ) → ℕ → List X → ℕ → ℕ
-handed_down bid f lots [] n = 0
-handed_down bid f lots (x ∷ xs) n = cond ((bid x).number == n) (min (f x) lots) (handed_down bid f (lots - f x) xs n)
 
 -- a sale with these lots and accounts that begins: everything else is as it was, but it has not ended
 abbrev pub begun : State → ℕ → List Account → State

@@ -4,7 +4,7 @@ ghost use Rattle.winners.specs.Winning.{winning};
 ghost use Rattle.rules.specs.declared.fault.SaleFault.TheVariants.{NoMarket};
 ghost use Rattle.rules.specs.Sales.{account, increment, clearing_at, standing_weight, won_in, outside as is-outside};
 ghost use Rattle.rules.specs.Lists.{total};
-ghost use Rattle.rules.specs.Parts.{of_both};
+ghost use Rattle.rules.specs.Accepted.{of_both};
 ghost use Rattle.rules.specs.Books.{bid_of, won, standing_of};
 ghost use Rattle.sales.specs.State.{state_of};
 ghost use Rattle.sales.specs.Questions.{OfMarket, OfSeat, OfNumber};

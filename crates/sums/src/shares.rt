@@ -1,7 +1,8 @@
 //! Sums of shares: of a whole book, of a seat's steps, and of a market's.
 ghost use Rattle.std.specs.Prelude.{◌≡◌, ◌≤◌, ◌&&◌, if◌then◌else◌, ◌==◌, nat_eq};
 ghost use Rattle.rules.specs.Lists.{total};
-ghost use Rattle.rules.specs.Parts.{of_both, losing_of};
+ghost use Rattle.rules.specs.Accepted.{of_both};
+ghost use Rattle.rules.specs.Parts.{losing_of};
 ghost use Rattle.rules.specs.Books.{bid_of, won, standing_of, of_seat};
 
 use crate::measure::{Measure, sum_over};

@@ -6,7 +6,7 @@ use Rattle.steps.specs.declared.record.StepRecord.{StepRecord}
 use Rattle.steps.specs.Rank.{before}
 use Rattle.books.specs.Replies.{at, NextReply}
 use Rattle.books.specs.Lawful.{SoundBelow}
-use Rattle.rules.specs.Parts.{ranked_in, in_rank}
+use Rattle.rules.specs.DownRank.{ranked_in, in_rank}
 use Rattle.rules.specs.Books.{bid_of}
 use Rattle.winners.specs.Winning.{is_winning, winning}
 use Rattle.winners.proofs.NextInRank.{rank_behind, behind_top, next_first, next_none}

@@ -8,7 +8,7 @@ use Rattle.steps.specs.Rule.{no_step}
 use Rattle.books.specs.Replies.{at, place_of, NextReply}
 use Rattle.books.specs.Lawful.{SoundBelow}
 use Rattle.rules.specs.Lists.{In}
-use Rattle.rules.specs.Parts.{in_rank}
+use Rattle.rules.specs.DownRank.{in_rank}
 use Rattle.rules.specs.Books.{bid_of}
 use Rattle.rules.proofs.Totals.{in_at}
 use Rattle.rules.proofs.Ranks.{Numbered, transitive}

@@ -1,7 +1,7 @@
 -- The winning steps of a market.
 use Rattle.std.specs.Prelude.{ℕ, Bool, List, filter, nat_lt}
 use Rattle.steps.specs.declared.record.StepRecord.{StepRecord}
-use Rattle.rules.specs.Parts.{in_rank}
+use Rattle.rules.specs.DownRank.{in_rank}
 use Rattle.rules.specs.Books.{bid_of, won}
 
 -- the step wins a share
