@@ -4,6 +4,7 @@
 use listings::list_session;
 use sessions::MOST_BYTES;
 use std::io::Read;
+use std::process::ExitCode;
 
 // One byte more than a session file may have tells that the input is too long, and no more is held.
 fn list(rt: &HostRuntime) -> anyhow::Result<()> {
@@ -16,12 +17,13 @@ fn list(rt: &HostRuntime) -> anyhow::Result<()> {
     Ok(())
 }
 
-fn main(rt: HostRuntime) -> anyhow::Result<()> {
+// A refusal is told once, on standard error: a `main` that returned it would have it printed again.
+fn main(rt: HostRuntime) -> ExitCode {
     match list(&rt) {
-        Ok(()) => Ok(()),
+        Ok(()) => ExitCode::SUCCESS,
         Err(error) => {
-            eprintln!(rt; "sos-list: {error}")?;
-            Err(error)
+            let _ = eprintln!(rt; "sos-list: {error}");
+            ExitCode::FAILURE
         }
     }
 }

@@ -4,6 +4,7 @@
 use anyhow::anyhow;
 use session_texts::make_session;
 use std::io::{Read, Write};
+use std::process::ExitCode;
 
 // Nothing is written unless every line was taken.
 fn make(rt: &HostRuntime) -> anyhow::Result<()> {
@@ -16,12 +17,13 @@ fn make(rt: &HostRuntime) -> anyhow::Result<()> {
     Ok(())
 }
 
-fn main(rt: HostRuntime) -> anyhow::Result<()> {
+// A refusal is told once, on standard error: a `main` that returned it would have it printed again.
+fn main(rt: HostRuntime) -> ExitCode {
     match make(&rt) {
-        Ok(()) => Ok(()),
+        Ok(()) => ExitCode::SUCCESS,
         Err(error) => {
-            eprintln!(rt; "sos-make: {error}")?;
-            Err(error)
+            let _ = eprintln!(rt; "sos-make: {error}");
+            ExitCode::FAILURE
         }
     }
 }
