@@ -2,7 +2,7 @@
 ghost use Rattle.std.specs.Prelude.{◌≡◌, ◌-◌, ◌≤◌, slice_index_or};
 ghost use Rattle.accounts.specs.Seated.{seated};
 ghost use Rattle.rules.specs.Lists.{each_with};
-ghost use Rattle.rules.specs.Sales.{nobody, owed as owed-of, ends as sale-ends, close, answer};
+ghost use Rattle.rules.specs.Sales.{nobody, owed as owed_of, ends as sale_ends, close, answer};
 ghost use Rattle.rules.specs.Books.{weighted, standing_of};
 ghost use Rattle.rules.specs.Parts.{closed_account, close_leaves};
 ghost use Rattle.sale_parts.specs.State.{state_of, Does};
@@ -49,14 +49,14 @@ fn settle<S: PhaseSheet + Drop, B: StepBook + Drop>(sale: &mut SaleParts<S, B>) 
 
 // Whether a closing now ends the sale: past the opening rounds, and nobody raised in the round.
 fn ends<S: PhaseSheet + Drop, B: StepBook + Drop>(sale: &SaleParts<S, B>) -> bool
-    ensures { result ≡ sale-ends (state_of S.PhaseSheet B.StepBook sale.now) }
+    ensures { result ≡ sale_ends (state_of S.PhaseSheet B.StepBook sale.now) }
 {
     sale.ledger.round > sale.sheet.opening_count() as u64 && !sale.ledger.raised
 }
 
 // The activity owed in a round from the eligibility now, rounded up.
 fn owed<S: PhaseSheet>(sheet: &S, round: u64, eligible: u32) -> u32
-    ensures { result ≡ owed-of (S.PhaseSheet.figures sheet.now) round eligible }
+    ensures { result ≡ owed_of (S.PhaseSheet.figures sheet.now) round eligible }
 {
     let percent = sheet.percent(round) as u64;
     ((percent * eligible as u64 + 99) / 100) as u32
@@ -82,7 +82,7 @@ fn lacking<S: PhaseSheet, B: StepBook>(
     seats: &Seats,
 ) -> u32
     requires { 1 ≤ seat }
-    ensures { result ≡ owed-of (S.PhaseSheet.figures sheet.now) round (slice_index_or (seated seats.now) (seat - 1) nobody).eligible - weighted (S.PhaseSheet.figures sheet.now).weight seat standing_of (B.StepBook.steps book.now) }
+    ensures { result ≡ owed_of (S.PhaseSheet.figures sheet.now) round (slice_index_or (seated seats.now) (seat - 1) nobody).eligible - weighted (S.PhaseSheet.figures sheet.now).weight seat standing_of (B.StepBook.steps book.now) }
 {
     let owes = owed(sheet, round, seats.eligible(seat));
     owes.saturating_sub(standing_weight(sheet, book, seat))

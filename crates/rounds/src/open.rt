@@ -1,7 +1,7 @@
 //! The opening of a round.
 ghost use Rattle.std.specs.Prelude.{◌≡◌, ◌≤◌, length, OnOk};
 ghost use Rattle.rules.specs.Parts.{round_begun};
-ghost use Rattle.rules.specs.Sales.{fixed, padded as padded-row, opening, verdict};
+ghost use Rattle.rules.specs.Sales.{fixed, padded as padded_row, opening, verdict};
 ghost use Rattle.sale_parts.specs.State.{state_of, Tested, Does};
 
 use books::StepBook;
@@ -67,7 +67,7 @@ fn begin_round<S: PhaseSheet + Drop, B: StepBook + Drop>(
 // Seven increments: those of the row, and 0 where it has none.
 fn padded(row: &[u16]) -> [u16; 7]
     requires { length row.now ≤ 7 }
-    ensures { result ≡ padded-row row.now }
+    ensures { result ≡ padded_row row.now }
 {
     let mut increments = [0; 7];
     for place in 0..row.len() {

@@ -2,7 +2,7 @@
 ghost use Rattle.std.specs.Prelude.{◌≡◌};
 ghost use Rattle.accounts.specs.Seated.{seated};
 ghost use Rattle.rules.specs.Parts.{begun};
-ghost use Rattle.rules.specs.Sales.{fresh, taken as is-taken, outside as is-outside};
+ghost use Rattle.rules.specs.Sales.{fresh, taken as is_taken, outside as is_outside};
 ghost use Rattle.sale_parts.specs.State.{state_of};
 
 use crate::ledger::Ledger;
@@ -13,7 +13,7 @@ use sheets::PhaseSheet;
 
 /// Whether n is not from 1 to the top.
 pub fn outside(n: usize, top: usize) -> bool
-    ensures { result ≡ is-outside n top }
+    ensures { result ≡ is_outside n top }
 {
     n == 0 || n > top
 }
@@ -43,7 +43,7 @@ impl<S: PhaseSheet + Drop, B: StepBook + Drop> SaleParts<S, B> {
 
     /// Whether the sale has a seat, or its book a step.
     pub fn taken(&self) -> bool
-        ensures { result ≡ is-taken (state_of S.PhaseSheet B.StepBook self.now) }
+        ensures { result ≡ is_taken (state_of S.PhaseSheet B.StepBook self.now) }
     {
         let (steps, _) = self.book.count();
         self.ledger.seats.count() > 0 || steps > 0

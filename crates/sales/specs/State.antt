@@ -2,7 +2,7 @@
 use Rattle.std.specs.Prelude.{[], ◌∷◌, Result}
 use Rattle.sheets.specs.declared.sheet.PhaseSheet.{Ghosts as SheetGhosts}
 use Rattle.books.specs.declared.book.StepBook.{Ghosts as BookGhosts}
-use Rattle.sale_parts.specs.State.{Obeys, state_of as parts-state}
+use Rattle.sale_parts.specs.State.{Obeys, state_of as parts_state}
 use Rattle.rules.specs.declared.answer.Answer.{Answer}
 use Rattle.rules.specs.declared.fault.SaleFault.{SaleFault}
 use Rattle.rules.specs.Sales.{State, Call}
@@ -11,7 +11,7 @@ use Rattle.sales.specs.declared.sale.Sale.{Sale}
 
 -- the state that the rules speak of
 abbrev pub state_of : {S B : Type 0} → SheetGhosts S → BookGhosts B → Sale S B → State
-state_of sheet book s = parts-state sheet book s.parts
+state_of sheet book s = parts_state sheet book s.parts
 
 -- a call of a sale that was `before` and is `later` answers and leaves what the rules say
 abbrev pub Does : {S B : Type 0} → SheetGhosts S → BookGhosts B → Sale S B → Call → Result Answer SaleFault → Sale S B → Type 0

@@ -2,7 +2,7 @@
 ghost use Rattle.std.specs.Prelude.{◌≡◌, ◌-◌, ◌<◌, true, false, length, IfOk, MatchResult};
 ghost use Rattle.winners.specs.Winning.{winning};
 ghost use Rattle.rules.specs.declared.fault.SaleFault.TheVariants.{NoMarket};
-ghost use Rattle.rules.specs.Sales.{account, increment, clearing_at, standing_weight, won_in, outside as is-outside};
+ghost use Rattle.rules.specs.Sales.{account, increment, clearing_at, standing_weight, won_in, outside as is_outside};
 ghost use Rattle.rules.specs.Lists.{total};
 ghost use Rattle.rules.specs.Accepted.{of_both};
 ghost use Rattle.rules.specs.Books.{bid_of, won, standing_of};
@@ -64,7 +64,7 @@ impl<S: PhaseSheet + Drop, B: StepBook + Drop> Sale<S, B> {
 
     // The place of a market in the sale's tables, or a refusal where the sale has no such market.
     fn place_of(&self, market: u8) -> Result<usize, SaleFault>
-        ensures { MatchResult result (λ place. (is-outside market (state_of S.PhaseSheet B.StepBook self.now).figures.markets ≡ false) × (place ≡ market - 1) × (place < 7)) (λ f. (is-outside market (state_of S.PhaseSheet B.StepBook self.now).figures.markets ≡ true) × (f ≡ NoMarket)) }
+        ensures { MatchResult result (λ place. (is_outside market (state_of S.PhaseSheet B.StepBook self.now).figures.markets ≡ false) × (place ≡ market - 1) × (place < 7)) (λ f. (is_outside market (state_of S.PhaseSheet B.StepBook self.now).figures.markets ≡ true) × (f ≡ NoMarket)) }
     {
         if outside(market as usize, self.parts.sheet.market_count() as usize) {
             return Err(SaleFault::NoMarket);
