@@ -46,11 +46,16 @@ sold_term = run raised_term (close ∷ opening (100 ∷ []) ∷ close ∷ [])
 abbrev pub part_sold : State
 part_sold = run new_term (start (12_000_000 ∷ []) ∷ opening (0 ∷ []) ∷ enter 1 1 60 400 5 ∷ close ∷ opening (0 ∷ []) ∷ close ∷ [])
 
--- an ended sale of single years
+-- four rounds of single years without an order
+abbrev pub four_rounds : List Call
+four_rounds = opening (row 7 0) ∷ close ∷ opening (row 7 0) ∷ close ∷ opening (row 7 0) ∷ close ∷ opening (row 7 0) ∷ close ∷ []
+
+-- an ended sale of single years in which nobody bid, and one in which as many shares were won as were on offer in a market
 abbrev pub ended_years : State
-ended_years =
-    run shut_years
-    (opening (row 7 0) ∷ close ∷ opening (row 7 0) ∷ close ∷ opening (row 7 0) ∷ close ∷ opening (row 7 0) ∷ close ∷ opening (row 7 0) ∷ close ∷ [])
+ended_years = run shut_years (opening (row 7 0) ∷ close ∷ four_rounds)
+
+abbrev pub sold_years : State
+sold_years = run open_years (close ∷ four_rounds)
 
 -- what each of the calls would be told of the state
 abbrev pub told : State → List Call → List Verdict
@@ -65,7 +70,7 @@ pub record EdgesHold : Type 0 where
   -- an opening: one increment for each market, at most 1,000, in a sale that goes on and has no round open
   pub opens : told shut_years (opening (row 6 1_001) ∷ opening (row 8 0) ∷ opening (row 7 1_000) ∷ opening (row 7 1_001) ∷ []) ≡ (failed RowLength ∷ failed RowLength ∷ passed ∷ failed IncrementSize ∷ [])
   pub opens_once : told open_years (opening (row 6 0) ∷ []) ≡ (failed RoundOpen ∷ [])
-  pub opens_not_ended : told new_years (opening (row 7 0) ∷ []) ≡ (failed SaleEnded ∷ [])
+  pub opens_not_ended : told new_years (opening (row 7 0) ∷ opening (row 6 1_001) ∷ []) ≡ (failed SaleEnded ∷ failed SaleEnded ∷ [])
   -- nothing but an opening while no round is open
   pub shut : told shut_years (enter 0 0 0 10_001 0 ∷ raise 0 0 0 10_001 0 ∷ close ∷ []) ≡ (failed RoundShut ∷ failed RoundShut ∷ failed RoundShut ∷ [])
   -- a new step: what is wrong from the first test on, mended one by one
@@ -81,16 +86,16 @@ pub record EdgesHold : Type 0 where
   -- a raise likewise
   pub raises : told round_two
       (raise 0 0 0 10_001 5 ∷ raise 3 0 0 10_001 5 ∷ raise 1 0 0 10_001 5 ∷ raise 1 3 0 10_001 5 ∷ raise 1 2 0 10_001 5 ∷ raise 2 2 0 10_001 5 ∷ raise 2 2 61 10_001 5 ∷ raise 2 2 60 10_001 5 ∷ raise 2 2 60 10_000 5
-      ∷ raise 2 2 60 399 6 ∷ raise 2 2 60 400 6 ∷ raise 1 1 60 400 6 ∷ raise 1 1 60 401 6 ∷ [])
+      ∷ raise 2 2 60 399 5 ∷ raise 2 2 60 399 6 ∷ raise 2 2 60 400 6 ∷ raise 1 1 60 400 6 ∷ raise 1 1 60 401 6 ∷ [])
       ≡ (failed NoSeat ∷ failed NoSeat ∷ failed (Book NoStep) ∷ failed (Book NoStep) ∷ failed OtherSeat ∷ failed RaiseShares ∷ failed RaiseShares ∷ failed DiscountSize ∷ failed StampBehind
-      ∷ failed LowRaise ∷ passed ∷ failed LowRaise ∷ passed ∷ [])
-  pub raises_cleared : told open_years (raise 1 1 1 10_000 5 ∷ []) ≡ (failed NoClearing ∷ [])
+      ∷ failed StampBehind ∷ failed LowRaise ∷ passed ∷ failed LowRaise ∷ passed ∷ [])
+  pub raises_cleared : told open_years (raise 1 1 1 10_000 4 ∷ raise 1 1 1 10_000 5 ∷ []) ≡ (failed StampBehind ∷ failed NoClearing ∷ [])
   pub raises_full : told raised_term (raise 2 2 31 400 7 ∷ raise 2 2 30 399 7 ∷ raise 2 2 30 400 7 ∷ []) ≡ (failed RaiseShares ∷ failed LowRaise ∷ failed (Book Full) ∷ [])
   pub raises_in_time : told raised_term (raise 2 2 1 400 6 ∷ []) ≡ (failed StampBehind ∷ [])
   -- a changeover: from an ended sale of one market that left something, into a new one
-  pub changes : told new_years (changeover round_two ∷ changeover shut_years ∷ changeover ended_years ∷ changeover sold_term ∷ changeover part_sold ∷ [])
-      ≡ (failed FirstGoing ∷ failed FirstGoing ∷ failed FirstMarkets ∷ failed NothingLeft ∷ passed ∷ [])
-  pub changes_once : told shut_years (changeover sold_term ∷ changeover part_sold ∷ []) ≡ (failed NothingLeft ∷ failed Taken ∷ [])
+  pub changes : told new_years (changeover round_two ∷ changeover shut_years ∷ changeover ended_years ∷ changeover sold_years ∷ changeover sold_term ∷ changeover part_sold ∷ [])
+      ≡ (failed FirstGoing ∷ failed FirstGoing ∷ failed FirstMarkets ∷ failed FirstMarkets ∷ failed NothingLeft ∷ passed ∷ [])
+  pub changes_once : told shut_years (changeover ended_years ∷ changeover sold_term ∷ changeover part_sold ∷ []) ≡ (failed FirstMarkets ∷ failed NothingLeft ∷ failed Taken ∷ [])
   -- a new sale's increments are 0; an increment of 0 stands for 50, and only the sale's markets have one
   pub no_increment : map (increment new_years) (1 ∷ 7 ∷ []) ≡ (0 ∷ 0 ∷ [])
   pub default_increment : map (increment (run new_term (start (500 ∷ []) ∷ opening (0 ∷ []) ∷ []))) (1 ∷ 2 ∷ []) ≡ (50 ∷ 0 ∷ [])

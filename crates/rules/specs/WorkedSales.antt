@@ -1,13 +1,15 @@
--- Whole sales, call by call: one of two bidders, and a procurement of two sales.
+-- Sales call by call: a whole one of two bidders, and a procurement whose second sale is followed to its first closing.
 use Rattle.std.specs.Prelude.{◌≡◌, true, false, List, [], ◌∷◌, map, replicate, Ok, Err}
 use Rattle.sheets.specs.Phases.{full_term, single_year}
+use Rattle.rules.specs.declared.account.Account.{Account}
 use Rattle.rules.specs.declared.fault.SaleFault.TheVariants.{LowRaise}
 use Rattle.rules.specs.declared.answer.Answer.TheVariants.{Told, Closed}
 use Rattle.rules.specs.Books.{won}
-use Rattle.rules.specs.Sales.{State, fresh, Call, start, changeover, opening, enter, raise, close, reply, after, run}
+use Rattle.rules.specs.Sales.{State, fresh, less, Call, start, changeover, opening, enter, raise, close, reply, after, run}
 use Rattle.rules.specs.Parts.{replies}
 use Rattle.rules.specs.Tallies.{blank, tally, gets}
 use Rattle.rules.specs.Fair.{Real, Shared}
+use Rattle.rules.specs.Cases.{entered_at}
 
 -- a sale of two bidders: seat 2 is outbid, asks too little once, raises 10 of its losing shares, and nobody raises in round 3
 abbrev pub two_bidders : List Call
@@ -44,6 +46,10 @@ pub record WorkedSales : Type 0 where
   pub two_bidders_tallied : map (gets (tally new_term blank two_bidders)) (tally new_term blank two_bidders).entries ≡ (70 ∷ 20 ∷ 10 ∷ [])
   -- two sales: the first is one that its calls made, so the promise over both holds of the second with nothing left to assume
   pub first_made : Real 1 first_sale
+  pub first_wins : map won first_sale.steps ≡ (40 ∷ 30 ∷ [])
+  pub both_carry : map (λ (a : Account). a.bought) second_start.accounts ≡ (12_000 ∷ 12_000 ∷ [])
   pub second_told : reply second_sale close ≡ Ok (Closed 0 false)
   pub second_wins : map won (after second_sale close).steps ≡ (10 ∷ 20 ∷ 30 ∷ [])
   pub second_shares : Shared first_sale (after second_sale close)
+  -- of a step with 30 shares standing, 10 of them losing, a raise of 15 leaves 15 standing
+  pub raised_stands : (less 15 (record { bid = (entered_at 1 400 7 30).bid; standing = 30; losing = 10; rejected = 0 })).standing ≡ 15

@@ -1,4 +1,4 @@
-//! Tests of the sale: each refusal at its edge, and whole sales over two kinds of book and three sheets.
+//! Tests of the sale: each refusal at its edge, over two kinds of book and three sheets.
 #![tactic(auto)]
 
 #[cfg(test)]

@@ -1,6 +1,7 @@
-//! Each refusal of a call, in the order of its tests, over any book of three places.
+//! Each refusal of a call, in the order of its tests, over any book of three places; and a third sheet.
+use crate::sheet::TwoMarkets;
 use books::{FlatBook, StepBook};
-use rules::{Answer, SaleFault};
+use rules::{Account, Answer, SaleFault};
 use sales::Sale;
 use sheets::{FullTerm, PhaseSheet, SingleYear};
 use std::process::Abort;
@@ -170,12 +171,31 @@ fn changes<B: StepBook + Drop, C: StepBook + Drop>(rt: &impl Abort, one: B, othe
     assert_eq!(rt; second.changeover(&first), Err(SaleFault::Taken));
 }
 
+// A sale knows a sheet by its figures: two markets, and half of the eligibility owed in the first round.
+fn owes_half<B: StepBook + Drop>(rt: &impl Abort, book: B) {
+    let mut sale = Sale::new(TwoMarkets, book);
+    assert_eq!(rt; sale.start(&[1_000_000]), Ok(Answer::Told(100)));
+    assert_eq!(rt; sale.open(&[0; 7]), Err(SaleFault::RowLength));
+    assert_eq!(rt; sale.open(&[0; 2]), Ok(Answer::Told(1)));
+    assert_eq!(rt; sale.enter(1, 3, 1, 0, 0), Err(SaleFault::NoMarket));
+    assert_eq!(rt; sale.enter(1, 1, 1, 0, 0), Ok(Answer::Told(1)));
+    assert_eq!(rt; sale.close(), Ok(Answer::Closed(0, false)));
+    assert_eq!(rt;
+        sale.account(1),
+        Ok(Account {
+            bought: 2_000,
+            eligible: 1_400
+        })
+    );
+}
+
 #[test]
 fn refusals_over_a_flat_book(rt: HostRuntime) {
     starts(&rt, FlatBook::new(&mut [UNUSED; 3]));
     opens(&rt, FlatBook::new(&mut [UNUSED; 3]));
     enters(&rt, FlatBook::new(&mut [UNUSED; 3]));
     raises(&rt, FlatBook::new(&mut [UNUSED; 3]));
+    owes_half(&rt, FlatBook::new(&mut [UNUSED; 3]));
     changes(
         &rt,
         FlatBook::new(&mut [UNUSED; 3]),
@@ -189,6 +209,7 @@ fn refusals_over_a_vector(rt: HostRuntime) -> Result<(), Fail> {
     opens(&rt, VecBook::new(rt.alloc(), 3)?);
     enters(&rt, VecBook::new(rt.alloc(), 3)?);
     raises(&rt, VecBook::new(rt.alloc(), 3)?);
+    owes_half(&rt, VecBook::new(rt.alloc(), 3)?);
     changes(
         &rt,
         VecBook::new(rt.alloc(), 3)?,

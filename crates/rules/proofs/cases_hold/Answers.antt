@@ -37,9 +37,12 @@ returns c = record {
         two_bidders_win = refl;
         two_bidders_tallied = refl;
         first_made = first_real;
+        first_wins = refl;
+        both_carry = refl;
         second_told = refl;
         second_wins = refl;
         second_shares = second_shared;
+        raised_stands = refl;
       };
   edges =
       record {
