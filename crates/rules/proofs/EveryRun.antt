@@ -11,7 +11,7 @@ use Rattle.rules.specs.Rounds.{RoundsBounded}
 use Rattle.rules.proofs.Totals.{total_map, total_same, total_plus, map_same}
 use Rattle.rules.proofs.Ranks.{Numbered, numbered_map}
 use Rattle.rules.proofs.DownRank.{down_the_rank}
-use Rattle.rules.proofs.Phases.{stays_run, waits}
+use Rattle.rules.proofs.Phases.{reaches}
 use Rattle.rules.proofs.Runs.{going_open, going_seated, runs_are_fair, real_calls, real_sound}
 use Rattle.rules.proofs.Rounds.{Peopled, few_rounds}
 
@@ -19,7 +19,7 @@ pub runs_down_the_rank : RunsDownTheRank
 runs_down_the_rank f l size book calls e =
     let s = run (fresh f size book) calls in
     let t = tally (fresh f size book) blank calls in
-    let g = going_open s t (stays_run (fresh f size book) blank calls (waits f size book l)) e in
+    let g = going_open s t (reaches f l size book calls) e in
     let numbered = subst (Numbered entry_bid 1) (sym g.mirrored) (numbered_map bid_of entry_bid entry_of (λ x. refl) 1 s.steps g.numbered) in
     (runs_are_fair.0 f l size book calls).won_fairly e
     ∙ map_same (gets t) (gets_down t) t.entries (λ z i. sym (down_the_rank entry_bid entry_shares t.lots t.entries z numbered i))
@@ -38,7 +38,7 @@ pub runs_accounted : RunsAccounted
 runs_accounted f l size book calls h k m =
     let s = run (fresh f size book) calls in
     let t = tally (fresh f size book) blank calls in
-    accounted_for t.entries s.steps k m (going_seated s t (stays_run (fresh f size book) blank calls (waits f size book l)) h).mirrored
+    accounted_for t.entries s.steps k m (going_seated s t (reaches f l size book calls) h).mirrored
 
 pub rounds_bounded : RoundsBounded
 rounds_bounded f size book calls n real = few_rounds f size book calls (real_calls (Real n) Peopled (λ first r. (real_sound n first r).has_seat) calls real)

@@ -316,5 +316,9 @@ pub stays_run : (s : State) (t : Tally) (cs : List Call) → Phase s t → Phase
 stays_run s t [] ph = ph
 stays_run s t (c ∷ cs) ph = stays_run (after s c) (noted t c (reply s c)) cs (stays s t c ph)
 
-pub waits : (f : Figures) (size : ℕ) (book : List StepRecord) → Lawful f → Phase (fresh f size book) blank
+waits : (f : Figures) (size : ℕ) (book : List StepRecord) → Lawful f → Phase (fresh f size book) blank
 waits f size book l = inl (record { lawful = l; unseated = refl; shut = refl; over = refl; no_lots = refl; no_entries = refl })
+
+-- so every run of a new sale is in one of the phases
+pub reaches : (f : Figures) → Lawful f → (size : ℕ) (book : List StepRecord) (calls : List Call) → Phase (run (fresh f size book) calls) (tally (fresh f size book) blank calls)
+reaches f l size book calls = stays_run (fresh f size book) blank calls (waits f size book l)

@@ -11,7 +11,7 @@ use Rattle.rules.specs.Tallies.{Tally, blank, noted, tally}
 use Rattle.rules.specs.Fair.{Seated, WonAsTallied, FairRun, RunsFair, RealCall, Real, Shared, ChangeoversFair, RunsAreFair, new_sale, Reached, Shares, FairOutcome, StaysFair}
 use Rattle.rules.proofs.Fits.{closed_won, closed_market}
 use Rattle.rules.proofs.Weights.{weighted_won, one_market, lapses_now, lapses_bought, length_lapses, carried_bought, length_carried}
-use Rattle.rules.proofs.Phases.{Going, Phase, Passed, all_pass, inside, free, closes, stays, stays_run, waits}
+use Rattle.rules.proofs.Phases.{Going, Phase, Passed, all_pass, inside, free, closes, stays, stays_run, reaches}
 
 -- what stays while a sale has a seat
 record Steady (s s' : State) : Type 0 where
@@ -78,7 +78,7 @@ fair s t ph = record {
 }
 
 runs_fair : RunsFair
-runs_fair f l size book calls = fair (run (fresh f size book) calls) (tally (fresh f size book) blank calls) (stays_run (fresh f size book) blank calls (waits f size book l))
+runs_fair f l size book calls = fair (run (fresh f size book) calls) (tally (fresh f size book) blank calls) (reaches f l size book calls)
 
 -- a sale that is what a run leaves has a hundred lots at most, and a seat if it has any
 pub record Sound (s : State) : Type 0 where
@@ -126,7 +126,7 @@ real_phase zero s r = elim r [ ]
 real_phase (suc n) s r =
     let start = fresh r.0 r.2 r.3 in
     let t = tally start blank r.4 in
-    (t, subst (λ s. Phase s t) (sym r.6) (stays_run start blank r.4 (waits r.0 r.2 r.3 r.1)))
+    (t, subst (λ s. Phase s t) (sym r.6) (reaches r.0 r.1 r.2 r.3 r.4))
 
 going_lots : (s : State) (t : Tally) → Phase s t → 0 < s.lots → Going s t
 going_lots s t (inl w) h = absurd (omega (arith, w.no_lots))
@@ -189,7 +189,7 @@ changeovers_fair f l size book calls rest first n r e e₂ =
     let t₂ = noted t (changeover first) (Rattle.rules.specs.Sales.reply s (changeover first)) in
     let later = run s₂ rest in
     let t₃ = tally s₂ t₂ rest in
-    let ph = stays_run s₂ t₂ rest (stays s t (changeover first) (stays_run (fresh f size book) blank calls (waits f size book l))) in
+    let ph = stays_run s₂ t₂ rest (stays s t (changeover first) (reaches f l size book calls)) in
     let c = carried_over s first e in
     let sound = real_sound n first r in
     let first-phase = real_phase n first r in

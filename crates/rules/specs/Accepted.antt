@@ -9,6 +9,7 @@ use Rattle.rules.specs.Sales.{fresh, Call, run}
 use Rattle.rules.specs.Tallies.{Tally, entry_bid, entry_shares, blank, tally}
 use Rattle.rules.specs.Fair.{Seated}
 
+-- the rejected shares of a step
 abbrev pub rejected_of : StepRecord → ℕ
 rejected_of x = x.rejected
 

@@ -8,6 +8,7 @@ use Rattle.rules.specs.declared.fault.SaleFault.{SaleFault}
 use Rattle.rules.specs.Books.{standing_of, won, weighted, of_seat}
 use Rattle.rules.specs.Sales.{State, account, standing_weight, won_in, next_round, owed, lapsed, Call, close, done, reply, after}
 
+-- the losing shares of a step
 abbrev pub losing_of : StepRecord → ℕ
 losing_of x = x.losing
 
@@ -65,6 +66,7 @@ book_full s = length s.steps == s.size
 abbrev pub closed_account : Figures → ℕ → List StepRecord → ℕ → Account → Account
 closed_account f round steps seat a = lapsed (owed f round a.eligible) (weighted f.weight seat standing_of steps) a
 
+-- what an accepted closing leaves
 abbrev pub close_leaves : State → State
 close_leaves s = done s close
 

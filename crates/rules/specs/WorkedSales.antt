@@ -1,4 +1,4 @@
--- Sales call by call: a whole one of two bidders, and a procurement whose second sale is followed to its first closing.
+-- Sales call by call: a whole one of two bidders, and a procurement whose second sale is followed to its first closing; and what a raise leaves of a step.
 use Rattle.std.specs.Prelude.{◌≡◌, true, false, List, [], ◌∷◌, map, replicate, Ok, Err}
 use Rattle.sheets.specs.Phases.{full_term, single_year}
 use Rattle.rules.specs.declared.account.Account.{Account}
