@@ -316,7 +316,7 @@ pub stays_run : (s : State) (t : Tally) (cs : List Call) → Phase s t → Phase
 stays_run s t [] ph = ph
 stays_run s t (c ∷ cs) ph = stays_run (after s c) (noted t c (reply s c)) cs (stays s t c ph)
 
-waits : (f : Figures) (size : ℕ) (book : List StepRecord) → Lawful f → Phase (fresh f size book) blank
+pub waits : (f : Figures) (size : ℕ) (book : List StepRecord) → Lawful f → Phase (fresh f size book) blank
 waits f size book l = inl (record { lawful = l; unseated = refl; shut = refl; over = refl; no_lots = refl; no_entries = refl })
 
 -- so every run of a new sale is in one of the phases
