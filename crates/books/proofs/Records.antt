@@ -1,47 +1,23 @@
--- What a write to a list of records keeps.
-use Rattle.std.proofs.Common.{◌≡◌, ℕ, ◌+◌, ◌-◌, ◌<◌, ◌≤◌, min, true, eqb, leb, ◌≢◌, List, length, take, drop, set, inl, inr, arith}
-use Rattle.std.proofs.lemmas.List.{get_or-set_same, get_or-set_other, length-set, length-take-le, drop-set-lt}
-use Rattle.std.proofs.lemmas.Bool.{cases_eq, eq-eqb, leb-true, and_from, and_parts}
+-- What is read from a sound book.
+use Rattle.std.proofs.Common.{Some, None, Option, Result, MatchOption, false, ap, ◌∙◌, get_or, ◌≡◌, ℕ, ◌+◌, ◌-◌, ◌<◌, ◌≤◌, true, eqb, leb, List, length, arith}
+use Rattle.std.proofs.lemmas.Bool.{le-leb, both_ways, and_from, and_parts}
 use Rattle.steps.specs.declared.record.StepRecord.{StepRecord}
-use Rattle.steps.specs.Rule.{offer_ok, shares_ok, step_ok, no_step}
-use Rattle.books.specs.Replies.{held, reshared}
-use Rattle.books.specs.Lawful.{SoundBelow, entry_ok}
+use Rattle.steps.specs.Rule.{step_ok, no_step}
+use Rattle.std.specs.Option.{ok_or}
+use Rattle.steps.specs.declared.step.Step.{Step}
+use Rattle.steps.specs.declared.fault.BookFault.{BookFault}
+use Rattle.steps.specs.declared.fault.BookFault.TheVariants.{NoStep}
+use Rattle.books.specs.Replies.{ReadReply}
+use Rattle.books.specs.Lawful.{SoundBelow}
 
-module _ (list : List StepRecord) (p : ℕ) (new : StepRecord) (within : p < length list) (fits : entry_ok p new ≡ true) where
-  -- a sound record at p keeps what is sound
-  pub sound_set : (n : ℕ) → SoundBelow list n → SoundBelow (set list p new) n
-  sound_set n sound i h =
-      elim (cases_eq i p) [
-        | inl e ↦ simp (e, get_or-set_same list p new no_step within) fits
-        | inr ne ↦ let other : i ≢ p = ne in rw get_or-set_other (sound i h)
-      ]
+-- a step that is held keeps the step's rule
+pub held_keeps : (steps : List StepRecord) (p : ℕ) → p < length steps → SoundBelow steps (length steps) → step_ok (get_or steps p no_step) ≡ true
+held_keeps steps p within sound = (and_parts (eqb (get_or steps p no_step).bid.number (p + 1)) (step_ok (get_or steps p no_step)) (sound p within)).1
 
-  -- a sound record behind p sound ones is one more
-  pub sound_push : SoundBelow list p → SoundBelow (set list p new) (p + 1)
-  sound_push sound i h =
-      elim (cases_eq i p) [
-        | inl e ↦ simp (e, get_or-set_same list p new no_step within) fits
-        | inr ne ↦ let other : i ≢ p = ne in rw get_or-set_other (sound i (omega arith))
-      ]
-
--- a write below the size leaves what is beyond it
-pub beyond_set : (list : List StepRecord) (p : ℕ) (new : StepRecord) → p < min (length list) 1024 → drop (min (length (set list p new)) 1024) (set list p new) ≡ drop (min (length list) 1024) list
-beyond_set list p new h = simp length-set (drop-set-lt (min (length list) 1024) list p new h)
-
--- a step that keeps the rule and has the next number is sound behind the first n records
-pub next_sound : (list : List StepRecord) (n : ℕ) (new : StepRecord) → n ≤ length list → step_ok new ≡ true → new.bid.number ≡ length (take n list) + 1 → entry_ok n new ≡ true
-next_sound list n new within ok e = and_from (eqb new.bid.number (n + 1)) (step_ok new) (eq-eqb _ _ (rw (length-take-le n list within) at e)) ok
-
--- a number that the first n records hold is a place below n
-pub held_taken : (list : List StepRecord) (n number : ℕ) → n ≤ length list → held (take n list) number ≡ true → number - 1 < n
-held_taken list n number within h =
-    let e = length-take-le n list within in
-    let p = and_parts (leb 1 number) (leb number (length (take n list))) h in
-    omega (arith, leb-true _ _ p.0, leb-true _ _ p.1)
-
--- a sound record with other shares that keep the rule is sound
-pub reshared_sound : (i : ℕ) (r : StepRecord) (standing losing rejected : ℕ) → entry_ok i r ≡ true → shares_ok standing losing rejected ≡ true → entry_ok i (reshared r standing losing rejected) ≡ true
-reshared_sound i r standing losing rejected sound kept =
-    let p = and_parts (eqb r.bid.number (i + 1)) (step_ok r) sound in
-    let q = and_parts (offer_ok r.bid.market r.bid.discount) (shares_ok r.standing r.losing r.rejected) p.1 in
-    simp (p.0, q.0, kept)
+-- a record read from a sound book is answered as a step
+pub read_checked : (steps : List StepRecord) (p number : ℕ) (x : StepRecord) (o : Option Step) (r : Result Step BookFault)
+    → p ≡ number - 1 → 1 ≤ number → p < length steps → x ≡ get_or steps p no_step → SoundBelow steps (length steps)
+    → MatchOption o (step_ok x ≡ false) (λ step. (step_ok x ≡ true) × (step.stored ≡ x)) → r ≡ ok_or o NoStep → ReadReply steps number r
+read_checked steps p number x None r place one within read sound m e = absurd (both_ways _ m (ap step_ok read ∙ held_keeps steps p within sound))
+read_checked steps p number x (Some step) r place one within read sound m e =
+    simp e (and_from (leb 1 number) (leb number (length steps)) (le-leb 1 number one) (le-leb number (length steps) (omega arith)), m.1 ∙ read ∙ ap (λ q. get_or steps q no_step) place)

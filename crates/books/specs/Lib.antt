@@ -1,4 +1,6 @@
 pub mod Lawful
 pub mod Replies
 pub mod Keeps
+pub mod Memory
 pub mod Flat
+pub mod Owned

@@ -1,11 +1,13 @@
 -- What each call of a book answers, and which steps the book has after it.
 use Rattle.std.specs.Prelude.{◌≡◌, ℕ, ◌+◌, ◌-◌, ◌<◌, ◌≤◌, Bool, true, false, cond, ◌&&◌, List, [], ◌∷◌, ◌++◌, length, Some, None, Ok, Err, Option, Result, ◌==◌, nat_le, slice_index_or, slice_set}
+use Rattle.offers.specs.declared.NewStep.{NewStep}
 use Rattle.ranks.specs.Order.{FirstBehind}
+use Rattle.steps.specs.declared.record.Shares.{Shares}
 use Rattle.steps.specs.declared.record.StepRecord.{StepRecord}
 use Rattle.steps.specs.declared.step.Step.{Step}
 use Rattle.steps.specs.declared.fault.BookFault.{BookFault}
 use Rattle.steps.specs.declared.fault.BookFault.TheVariants.{Full, NoStep, BadStep}
-use Rattle.steps.specs.Rule.{step_ok, shares_ok, no_step}
+use Rattle.steps.specs.Rule.{step_ok, shares_ok, no_step, all_standing}
 use Rattle.steps.specs.Rank.{market_of, step_precedes}
 
 -- the list has a step of that number
@@ -17,12 +19,10 @@ abbrev pub at : List StepRecord → ℕ → StepRecord
 at steps number = slice_index_or steps (number - 1) no_step
 
 -- the step that a put enters: the next number, all shares standing
-abbrev pub entered : List StepRecord → ℕ → ℕ → ℕ → ℕ → ℕ → StepRecord
-entered steps seat market discount stamp shares = record {
-  bid = record { number = length steps + 1; seat = seat; market = market; discount = discount; stamp = stamp };
-  standing = shares;
-  losing = 0;
-  rejected = 0;
+abbrev pub entered : List StepRecord → NewStep → StepRecord
+entered steps new = record {
+  bid = record { number = length steps + 1; seat = new.seat; market = new.market; discount = new.discount; stamp = new.stamp };
+  shares = all_standing new.shares;
 }
 
 -- a put refuses a step that breaks the rule, then any step where the book is full; else it answers the new number
@@ -39,17 +39,17 @@ ReadReply steps number (Ok step) = (held steps number ≡ true) × (step.stored 
 ReadReply steps number (Err fault) = (held steps number ≡ false) × (fault ≡ NoStep)
 
 -- a step with other share figures
-abbrev pub reshared : StepRecord → ℕ → ℕ → ℕ → StepRecord
-reshared x standing losing rejected = record { bid = x.bid; standing = standing; losing = losing; rejected = rejected }
+abbrev pub reshared : StepRecord → Shares → StepRecord
+reshared x shares = record { bid = x.bid; shares = shares }
 
 -- a set refuses a number that no step has, then shares that break the rule
-abbrev pub set_reply : List StepRecord → ℕ → ℕ → ℕ → ℕ → Result (Unit {0}) BookFault
-set_reply steps number standing losing rejected = cond (held steps number) (cond (shares_ok standing losing rejected) (Ok tt) (Err BadStep)) (Err NoStep)
+abbrev pub set_reply : List StepRecord → ℕ → Shares → Result (Unit {0}) BookFault
+set_reply steps number shares = cond (held steps number) (cond (shares_ok shares) (Ok tt) (Err BadStep)) (Err NoStep)
 
 -- the one step has the new share figures
-abbrev pub set_after : List StepRecord → ℕ → ℕ → ℕ → ℕ → List StepRecord
-set_after steps number standing losing rejected =
-    cond (held steps number) (cond (shares_ok standing losing rejected) (slice_set steps (number - 1) (reshared (at steps number) standing losing rejected)) steps) steps
+abbrev pub set_after : List StepRecord → ℕ → Shares → List StepRecord
+set_after steps number shares =
+    cond (held steps number) (cond (shares_ok shares) (slice_set steps (number - 1) (reshared (at steps number) shares)) steps) steps
 
 -- the place behind which next looks: none for 0, the top
 abbrev pub place_of : ℕ → Option ℕ

@@ -4,7 +4,8 @@ ghost use Rattle.steps.specs.declared.record.StepRecord.{StepRecord};
 ghost use Rattle.books.specs.Lawful.{Lawful};
 ghost use Rattle.books.specs.Replies.{entered, put_reply, put_after, set_reply, set_after, place_of, ReadReply, NextReply};
 
-use steps::{BookFault, Step, StepRecord};
+use offers::NewStep;
+use steps::{BookFault, Shares, Step, StepRecord};
 
 /// The most steps that any book can hold.
 pub const MOST_STEPS: usize = 1024;
@@ -27,31 +28,24 @@ pub trait StepBook {
         ensures { result ≡ (length (steps self.now), size self.now) };
 
     /// Enters a step with all its shares standing, and answers its number.
-    fn put(
-        &mut self,
-        seat: u8,
-        market: u8,
-        discount: u16,
-        stamp: u64,
-        shares: u8,
-    ) -> Result<u16, BookFault>
+    fn put(&mut self, step: NewStep) -> Result<u16, BookFault>
         ensures size { size self.new ≡ size self.old }
         ensures lent { lent self.new ≡ lent self.old }
         ensures beyond { beyond self.new ≡ beyond self.old }
-        ensures reply { result ≡ put_reply (size self.old) (steps self.old) (entered (steps self.old) seat market discount stamp shares) }
-        ensures after { steps self.new ≡ put_after (size self.old) (steps self.old) (entered (steps self.old) seat market discount stamp shares) };
+        ensures reply { result ≡ put_reply (size self.old) (steps self.old) (entered (steps self.old) step) }
+        ensures after { steps self.new ≡ put_after (size self.old) (steps self.old) (entered (steps self.old) step) };
 
     /// The step of that number.
     fn read(&self, number: u16) -> Result<Step, BookFault>
         ensures { ReadReply (steps self.now) number result };
 
     /// Replaces the three share figures of a step.
-    fn set(&mut self, number: u16, standing: u8, losing: u8, rejected: u8) -> Result<(), BookFault>
+    fn set(&mut self, number: u16, shares: Shares) -> Result<(), BookFault>
         ensures size { size self.new ≡ size self.old }
         ensures lent { lent self.new ≡ lent self.old }
         ensures beyond { beyond self.new ≡ beyond self.old }
-        ensures reply { result ≡ set_reply (steps self.old) number standing losing rejected }
-        ensures after { steps self.new ≡ set_after (steps self.old) number standing losing rejected };
+        ensures reply { result ≡ set_reply (steps self.old) number shares }
+        ensures after { steps self.new ≡ set_after (steps self.old) number shares };
 
     /// The number of the market's first step that ranks behind the one of the given number; 0 asks for the top.
     fn next(&self, market: u8, number: u16) -> Result<Option<u16>, BookFault>
@@ -62,9 +56,5 @@ pub trait StepBook {
 pub fn place_of(number: u16) -> Option<usize>
     ensures { result ≡ place_of number }
 {
-    if number == 0 {
-        None
-    } else {
-        Some(number as usize - 1)
-    }
+    usize::from(number).checked_sub(1)
 }

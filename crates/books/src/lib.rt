@@ -4,6 +4,11 @@
 mod book;
 mod flat;
 mod flat_calls;
+mod list;
+mod memory;
+mod owned;
+mod owned_calls;
 
 pub use book::{MOST_STEPS, StepBook, place_of};
 pub use flat::FlatBook;
+pub use owned::VecBook;

@@ -1,7 +1,12 @@
 -- A scan for the first of a group behind a place: one turn of it, and that there is one answer.
-use Rattle.std.proofs.Common.{◌≡◌, ℕ, ◌+◌, ◌<◌, ◌≤◌, Bool, true, false, List, [], ◌∷◌, length, get_or, Some, None, Option, refl, ⊎_elim, arith, below_more}
+use Rattle.std.proofs.Common.{◌≡◌, ℕ, ◌+◌, ◌<◌, ◌≤◌, Bool, true, false, List, [], ◌∷◌, length, get_or, Some, None, Option, refl, subst, ⊎_elim, arith, below_more}
 use Rattle.std.proofs.lemmas.Bool.{cases_Bool, both_ways}
-use Rattle.ranks.specs.Order.{Within, Stands, First, FirstBelow, FirstBehind, leads_best}
+use Rattle.ranks.specs.Order.{Within, Stands, First, FirstBelow, FirstBehind}
+
+-- the record at place k comes before the best so far; it does where there is none
+abbrev pub leads_best : {R : Type 0} → (R → R → Bool) → R → List R → ℕ → Option ℕ → Bool
+leads_best precedes d list k None = true
+leads_best precedes d list k (Some p) = precedes (get_or list k d) (get_or list p d)
 
 -- a place below n is below a larger number
 pub within_more : (n m : ℕ) (best : Option ℕ) → n ≤ m → Within n best → Within m best
@@ -75,3 +80,12 @@ first_one group precedes (x ∷ xs) g behind n a b l v f w h = first_below_one g
 pub first_behind_one : {R : Type 0} (group : R → ℕ) (precedes : R → R → Bool) (list : List R) (g : ℕ) (behind a b : Option ℕ)
     → FirstBehind group precedes list g behind a → FirstBehind group precedes list g behind b → a ≡ b
 first_behind_one group precedes list g behind a b f h = first_one group precedes list g behind (length list) a b (omega arith) f.within f.first h.within h.first
+
+-- nothing ranks behind a place past the end
+pub none_past : {R : Type 0} (group : R → ℕ) (precedes : R → R → Bool) (list : List R) (g q : ℕ) → length list ≤ q → FirstBehind group precedes list g (Some q) None
+none_past group precedes list g q past = record { within = tt; first = λ d k h s. absurd (omega (arith, s.2.0)) }
+
+-- the first of all places passed is the first of the list
+pub first_passed : {R : Type 0} (group : R → ℕ) (precedes : R → R → Bool) (list : List R) (g : ℕ) (behind best : Option ℕ) (n : ℕ) → n ≡ length list
+    → Within n best → ((d : R) → FirstBelow group precedes d list g behind n best) → FirstBehind group precedes list g behind best
+first_passed group precedes list g behind best n all w f = record { within = subst (λ (m : ℕ). Within m best) all w; first = λ d. subst (λ (m : ℕ). FirstBelow group precedes d list g behind m best) all (f d) }

@@ -34,7 +34,12 @@ pub record FirstBehind {R : Type 0} (group : R → ℕ) (precedes : R → R → 
   pub within : Within (length list) answer
   pub first : (d : R) → FirstBelow group precedes d list g behind (length list) answer
 
--- the record at place k comes before the best so far; it does where there is none
-abbrev pub leads_best : {R : Type 0} → (R → R → Bool) → R → List R → ℕ → Option ℕ → Bool
-leads_best precedes d list k None = true
-leads_best precedes d list k (Some p) = precedes (slice_index_or list k d) (slice_index_or list p d)
+-- a record comes after the one at the start, where there is one
+abbrev pub comes_after : {R : Type 0} → (R → R → Bool) → Option R → R → Bool
+comes_after precedes None x = true
+comes_after precedes (Some start) x = precedes start x
+
+-- a record comes before the best so far; it does where there is none
+abbrev pub comes_ahead : {R : Type 0} → (R → R → Bool) → Option R → R → Bool
+comes_ahead precedes None x = true
+comes_ahead precedes (Some best) x = precedes x best

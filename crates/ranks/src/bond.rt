@@ -3,6 +3,7 @@ ghost use Rattle.ranks.specs.Bonds.{bond_precedes, BondAlike};
 ghost use Rattle.std.proofs.Common.{rules};
 
 use crate::order::Ranked;
+use std::cmp::Reverse;
 
 /// A seat and the bond that it owes.
 #[derive(Clone, Copy, PartialEq, Eq, Debug)]
@@ -32,6 +33,6 @@ impl Ranked for SeatBond {
     }
 
     fn precedes(&self, other: &SeatBond) -> bool {
-        self.dollars > other.dollars || (self.dollars == other.dollars && self.seat < other.seat)
+        (Reverse(self.dollars), self.seat) < (Reverse(other.dollars), other.seat)
     }
 }

@@ -1,6 +1,7 @@
 //! The order of records, and the next of a group.
-ghost use Rattle.std.specs.Prelude.{◌≡◌, ℕ, ◌<◌, ◌≤◌, Bool, true, false, length, Decides, Option as Answer};
-ghost use Rattle.ranks.specs.Order.{FirstBehind, FirstBelow, Stands, Within, leads_best};
+ghost use Rattle.std.specs.Prelude.{◌≡◌, ◌==◌, ℕ, Bool, ◌&&◌, true, false, Option as Answer};
+ghost use Rattle.std.specs.Option.{option_map};
+ghost use Rattle.ranks.specs.Order.{FirstBehind, comes_after, comes_ahead};
 
 /// A record with a group and an order. No record precedes itself, precedence chains, and two records, neither preceding
 /// the other, are alike in all that the order compares.
@@ -28,52 +29,35 @@ pub trait Ranked {
     ghost same: { (x y z : Self) → alike x y → precedes x z ≡ true → precedes y z ≡ true };
 }
 
-// Whether the record at `place` is of the group and comes after the one at `behind`.
-fn stands<R: Ranked>(list: &[R], group: u8, behind: Option<usize>, place: usize) -> bool
-    requires { place < length list.now }
-    ensures { (d : R) → Decides result (Stands R.Ranked.group R.Ranked.precedes d list.now group behind place) }
+// Whether the record is of the group and comes after the one at the start, where there is one.
+fn stands<R: Ranked>(record: &R, group: u8, start: Option<&R>) -> bool
+    ensures { result ≡ (R.Ranked.group «record».now == group && comes_after R.Ranked.precedes (option_map (λ s. s.now) start.entry) «record».now) }
 {
-    if list[place].group() != group {
-        return false;
-    }
-    match behind {
-        None => true,
-        Some(start) => start < list.len() && list[start].precedes(&list[place]),
-    }
+    record.group() == group && start.is_none_or(|start| start.precedes(record))
 }
 
-// Whether the record at `place` comes before the best so far, or is the first to be seen.
-fn leads<R: Ranked>(list: &[R], place: usize, best: Option<usize>) -> bool
-    requires { (place < length list.now) × (Within (length list.now) best) }
-    ensures { (d : R) → result ≡ leads_best R.Ranked.precedes d list.now place best }
+// Whether the record comes before the best so far, or is the first to be seen.
+fn leads<R: Ranked>(record: &R, best: Option<(usize, &R)>) -> bool
+    ensures { result ≡ comes_ahead R.Ranked.precedes (option_map (λ b. b.1.now) best.entry) «record».now }
 {
-    match best {
-        None => true,
-        Some(leader) => list[place].precedes(&list[leader]),
-    }
+    best.is_none_or(|(_, leader)| record.precedes(leader))
 }
 
-// The first among the places below `end`. Records that tie keep the lower place, since a later one takes over only
-// where it strictly precedes.
-fn first_below<R: Ranked>(list: &[R], group: u8, behind: Option<usize>, end: usize) -> Option<usize>
-    requires { end ≤ length list.now }
-    ensures within { Within end result }
-    ensures first { (d : R) → FirstBelow R.Ranked.group R.Ranked.precedes d list.now group behind end result }
-    ensures only { (other : Answer ℕ) → Within end other → ((d : R) → FirstBelow R.Ranked.group R.Ranked.precedes d list.now group behind end other) → other ≡ result }
-{
-    let mut best: Option<usize> = None;
-    for place in 0..end {
-        if stands(list, group, behind, place) && leads(list, place, best) {
-            best = Some(place);
-        }
-    }
-    best
-}
-
-/// The place of the group's first record behind the one at `behind`, or of all where none is given.
+/// The place of the group's first record behind the one at `behind`, or of all where none is given. Records that tie keep
+/// the lower place, since a later one leads only where it strictly precedes.
 pub fn next_in_order<R: Ranked>(list: &[R], group: u8, behind: Option<usize>) -> Option<usize>
     ensures first { FirstBehind R.Ranked.group R.Ranked.precedes list.now group behind result }
     ensures only { (other : Answer ℕ) → FirstBehind R.Ranked.group R.Ranked.precedes list.now group behind other → other ≡ result }
 {
-    first_below(list, group, behind, list.len())
+    let start = match behind {
+        Some(place) => Some(list.get(place)?),
+        None => None,
+    };
+    let mut best: Option<(usize, &R)> = None;
+    for (place, record) in list.iter().enumerate() {
+        if stands(record, group, start) && leads(record, best) {
+            best = Some((place, record));
+        }
+    }
+    best.map(|(place, _)| place)
 }

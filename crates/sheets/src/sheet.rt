@@ -1,23 +1,32 @@
 //! What a sale knows of its phase.
-ghost use Rattle.std.specs.Prelude.{◌≡◌};
+ghost use Rattle.std.specs.Prelude.{◌≡◌, ℕ};
 ghost use Rattle.sheets.specs.Figures.{Figures, Lawful};
 
-/// The figures of a phase. The numbers of markets and of opening rounds belong to the kind of sheet; a clause can't name a
-/// constant, so two methods answer them.
+/// The figures of a phase. The numbers of markets and of opening rounds belong to the kind of sheet.
 pub trait PhaseSheet {
     const MARKETS: u8;
 
     const OPENING_ROUNDS: u8;
 
+    ghost MARKETS: { ℕ };
+
+    ghost OPENING_ROUNDS: { ℕ };
+
     ghost figures: { Self → Figures };
 
     /// How many markets there are, numbered from 1.
     fn market_count(&self) -> u8
-        ensures { result ≡ (figures self.now).markets };
+        ensures { result ≡ (figures self.now).markets }
+    {
+        Self::MARKETS
+    }
 
     /// How many opening rounds there are.
     fn opening_count(&self) -> u8
-        ensures { result ≡ (figures self.now).openings };
+        ensures { result ≡ (figures self.now).openings }
+    {
+        Self::OPENING_ROUNDS
+    }
 
     /// The percent of its eligibility that a seat owes as activity in the round.
     fn percent(&self, round: u64) -> u8
@@ -26,6 +35,8 @@ pub trait PhaseSheet {
     /// What a share in the market weighs.
     fn weight(&self, market: u8) -> u16
         ensures { result ≡ (figures self.now).weight market };
+
+    ghost counted: { (s : Self) → ((figures s).markets ≡ MARKETS) × ((figures s).openings ≡ OPENING_ROUNDS) };
 
     ghost lawful: { (s : Self) → Lawful (figures s) };
 }

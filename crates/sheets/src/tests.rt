@@ -6,6 +6,7 @@ use crate::full_term::FullTerm;
 use crate::sheet::PhaseSheet;
 use crate::single_year::SingleYear;
 use crate::years::{full_term_weight, year_weight};
+use std::array;
 
 /// Two markets, the heaviest and the lightest, and eight opening rounds of which only the last asks for activity.
 struct Edges;
@@ -15,17 +16,15 @@ impl PhaseSheet for Edges {
 
     const OPENING_ROUNDS: u8 = 8;
 
+    ghost MARKETS = { 2 };
+
+    ghost OPENING_ROUNDS = { 8 };
+
     ghost figures = { λ _. record { markets = 2; openings = 8; percent = λ r. (if nat_eq r 8 then 100 else 0); weight = λ m. (if nat_eq m 1 then 400 else (if nat_eq m 2 then 1 else 0)) } };
 
+    ghost counted = { Prim.search rules };
+
     ghost lawful = { Prim.search rules };
-
-    fn market_count(&self) -> u8 {
-        Self::MARKETS
-    }
-
-    fn opening_count(&self) -> u8 {
-        Self::OPENING_ROUNDS
-    }
 
     fn percent(&self, round: u64) -> u8 {
         if round == 8 { 100 } else { 0 }
@@ -43,19 +42,15 @@ impl PhaseSheet for Edges {
 // What a share of every market weighs together: the laws alone say that it fits.
 fn all_markets<S: PhaseSheet>(sheet: &S) -> u16 {
     let mut sum = 0;
-    for place in 0..sheet.market_count() {
-        sum += sheet.weight(place + 1);
+    for market in 1..=sheet.market_count() {
+        sum += sheet.weight(market);
     }
     sum
 }
 
 // The percents of the rounds from 0 to 9.
 fn percents<S: PhaseSheet>(sheet: &S) -> [u8; 10] {
-    let mut all = [0; 10];
-    for round in 0..10 {
-        all[round] = sheet.percent(round as u64);
-    }
-    all
+    array::from_fn(|round| sheet.percent(round as u64))
 }
 
 #[test]

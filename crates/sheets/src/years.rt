@@ -9,10 +9,8 @@ pub const YEAR_WEIGHTS: [u16; 7] = [100, 86, 71, 57, 43, 29, 14];
 pub fn year_weight(year: u8) -> Option<u16>
     ensures { result ≡ weight_in year }
 {
-    if year == 0 || year > 7 {
-        return None;
-    }
-    Some(YEAR_WEIGHTS[year as usize - 1])
+    let place = usize::from(year).checked_sub(1)?;
+    YEAR_WEIGHTS.get(place).copied()
 }
 
 // The weights together.

@@ -8,6 +8,6 @@ mod rule;
 mod step;
 
 pub use fault::BookFault;
-pub use record::{Bid, StepRecord};
-pub use rule::{offer_keeps, shares_keep};
+pub use record::{Bid, Shares, StepRecord};
+pub use rule::offer_keeps;
 pub use step::Step;

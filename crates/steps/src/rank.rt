@@ -4,6 +4,7 @@ ghost use Rattle.std.proofs.Common.{rules};
 
 use crate::record::StepRecord;
 use ranks::Ranked;
+use std::cmp::Reverse;
 
 impl Ranked for StepRecord {
     ghost group = { market_of };
@@ -26,8 +27,6 @@ impl Ranked for StepRecord {
 
     fn precedes(&self, other: &StepRecord) -> bool {
         let (a, b) = (self.bid, other.bid);
-        a.discount > b.discount
-            || (a.discount == b.discount
-                && (a.stamp < b.stamp || (a.stamp == b.stamp && a.number < b.number)))
+        (Reverse(a.discount), a.stamp, a.number) < (Reverse(b.discount), b.stamp, b.number)
     }
 }

@@ -10,11 +10,17 @@ pub struct Bid {
     pub stamp: u64,
 }
 
+/// What became of the shares of a bid: how many stand, how many of those are losing, and how many were rejected.
+#[derive(Clone, Copy, PartialEq, Eq, Debug)]
+pub struct Shares {
+    pub standing: u8,
+    pub losing: u8,
+    pub rejected: u8,
+}
+
 /// A bid and what became of its shares.
 #[derive(Clone, Copy, PartialEq, Eq, Debug)]
 pub struct StepRecord {
     pub bid: Bid,
-    pub standing: u8,
-    pub losing: u8,
-    pub rejected: u8,
+    pub shares: Shares,
 }

@@ -2,7 +2,7 @@
 ghost use Rattle.std.specs.Prelude.{◌≡◌, true, false, MatchOption};
 ghost use Rattle.steps.specs.Rule.{step_ok, offer_ok, shares_ok};
 
-use crate::record::StepRecord;
+use crate::record::{Shares, StepRecord};
 use crate::step::Step;
 
 /// Whether a market and a discount keep the step's rule.
@@ -12,11 +12,13 @@ pub fn offer_keeps(market: u8, discount: u16) -> bool
     1 <= market && market <= 7 && discount <= 10_000
 }
 
-/// Whether the share figures keep the step's rule.
-pub fn shares_keep(standing: u8, losing: u8, rejected: u8) -> bool
-    ensures { result ≡ shares_ok standing losing rejected }
-{
-    losing <= standing && standing as u16 + rejected as u16 <= 100
+impl Shares {
+    /// Whether the figures keep the step's rule.
+    pub fn keep_rule(self) -> bool
+        ensures { result ≡ shares_ok self }
+    {
+        self.losing <= self.standing && u16::from(self.standing) + u16::from(self.rejected) <= 100
+    }
 }
 
 impl Step {
@@ -25,7 +27,7 @@ impl Step {
         ensures { MatchOption result (step_ok stored ≡ false) (λ step. (step_ok stored ≡ true) × (step.stored ≡ stored)) }
     {
         let offer = offer_keeps(stored.bid.market, stored.bid.discount);
-        if offer && shares_keep(stored.standing, stored.losing, stored.rejected) {
+        if offer && stored.shares.keep_rule() {
             Some(Step { stored })
         } else {
             None

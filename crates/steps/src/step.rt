@@ -10,6 +10,6 @@ pub struct Step {
     ghost market_least: { 1 ≤ stored.bid.market },
     ghost market_most: { stored.bid.market ≤ 7 },
     ghost discount_most: { stored.bid.discount ≤ 10000 },
-    ghost losing_most: { stored.losing ≤ stored.standing },
-    ghost shares_most: { stored.standing + stored.rejected ≤ 100 },
+    ghost losing_most: { stored.shares.losing ≤ stored.shares.standing },
+    ghost shares_most: { stored.shares.standing + stored.shares.rejected ≤ 100 },
 }

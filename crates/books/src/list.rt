@@ -1,0 +1,82 @@
+//! A book over any memory of steps.
+ghost use Rattle.std.specs.Prelude.{◌≡◌, ◌+◌, ◌≤◌, List, length};
+ghost use Rattle.steps.specs.declared.record.StepRecord.{StepRecord as Record};
+ghost use Rattle.books.specs.Replies.{entered};
+
+use crate::book::{StepBook, place_of};
+use crate::memory::StepMemory;
+use offers::NewStep;
+use ranks::next_in_order;
+use steps::{Bid, BookFault, Shares, Step, StepRecord};
+
+// The record of a new step: all its shares stand.
+fn entered(number: u16, step: NewStep) -> StepRecord
+    ensures { (steps : List Record) → number ≡ length steps + 1 → result ≡ entered steps step }
+{
+    StepRecord {
+        bid: Bid {
+            number,
+            seat: step.seat,
+            market: step.market,
+            discount: step.discount,
+            stamp: step.stamp,
+        },
+        shares: Shares {
+            standing: step.shares,
+            losing: 0,
+            rejected: 0,
+        },
+    }
+}
+
+// How many steps there are.
+fn len<M: StepMemory>(memory: &M) -> usize
+    ensures steps { result ≡ length (M.StepMemory.steps memory.now) }
+    ensures most { result ≤ 1024 }
+{
+    memory.records().len()
+}
+
+impl<M: StepMemory> StepBook for M {
+    ghost size = { M.StepMemory.size };
+
+    ghost steps = { M.StepMemory.steps };
+
+    ghost lent = { M.StepMemory.lent };
+
+    ghost beyond = { M.StepMemory.beyond };
+
+    ghost lawful = { M.StepMemory.lawful };
+
+    fn count(&self) -> (u16, u16) {
+        (len(self) as u16, self.size() as u16)
+    }
+
+    fn put(&mut self, step: NewStep) -> Result<u16, BookFault> {
+        let number = len(self) as u16 + 1;
+        let new = Step::checked(entered(number, step)).ok_or(BookFault::BadStep)?;
+        self.append(new)?;
+        Ok(number)
+    }
+
+    fn read(&self, number: u16) -> Result<Step, BookFault> {
+        let place = place_of(number).ok_or(BookFault::NoStep)?;
+        let record = self.records().get(place).ok_or(BookFault::NoStep)?;
+        Step::checked(*record).ok_or(BookFault::NoStep)
+    }
+
+    fn set(&mut self, number: u16, shares: Shares) -> Result<(), BookFault> {
+        let old = self.read(number)?.stored();
+        let new = Step::checked(StepRecord { shares, ..old }).ok_or(BookFault::BadStep)?;
+        self.replace(number as usize - 1, new);
+        Ok(())
+    }
+
+    fn next(&self, market: u8, number: u16) -> Result<Option<u16>, BookFault> {
+        if number as usize > len(self) {
+            return Err(BookFault::NoStep);
+        }
+        let place = next_in_order(self.records(), market, place_of(number));
+        Ok(place.map(|place| place as u16 + 1))
+    }
+}
