@@ -51,7 +51,7 @@ lowest_at p y (x ∷ xs) (inr i) t h = go (p x) refl (lowest_at p y xs i t (λ z
 pub clearing_lowest : (m lots : ℕ) (all xs : List StepRecord) → least m (map (hands lots all) xs) ≡ lowest (λ x. eqb x.bid.market m && ltb 0 (wins lots all x)) xs
 clearing_lowest m lots all [] = refl
 clearing_lowest m lots all (x ∷ xs) =
-    let e : x.standing - (x.standing - wins lots all x) ≡ wins lots all x = omega arith in
+    let e : x.shares.standing - (x.shares.standing - wins lots all x) ≡ wins lots all x = omega arith in
     let r = clearing_lowest m lots all xs in
     ap (λ n. cond (eqb x.bid.market m && ltb 0 n) (lower x.bid.discount (least m (map (hands lots all) xs))) (least m (map (hands lots all) xs))) e
     ∙ ap (λ o. cond (eqb x.bid.market m && ltb 0 (wins lots all x)) (lower x.bid.discount o) o) r

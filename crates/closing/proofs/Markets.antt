@@ -20,7 +20,7 @@ module _ (lots : ℕ) (xs : List StepRecord) (t : StepRecord → Bool) where
   abbrev part : StepRecord → StepRecord
   part x = cond (t x) (hands lots xs x) x
 
-  counts_same : (b : Bool) (x z : StepRecord) → cond (ahead (cond b (hands lots xs z) z).bid x.bid) (cond b (hands lots xs z) z).standing 0 ≡ cond (ahead z.bid x.bid) z.standing 0
+  counts_same : (b : Bool) (x z : StepRecord) → cond (ahead (cond b (hands lots xs z) z).bid x.bid) (cond b (hands lots xs z) z).shares.standing 0 ≡ cond (ahead z.bid x.bid) z.shares.standing 0
   counts_same true x z = refl
   counts_same false x z = refl
 
@@ -33,7 +33,7 @@ module _ (lots : ℕ) (xs : List StepRecord) (t : StepRecord → Bool) where
   hands_same x = go (t x)
     where
       behind_all : hands lots (map part xs) x ≡ hands lots xs x
-      behind_all = ap (λ k. record { bid = x.bid; standing = x.standing; losing = x.standing - min x.standing (lots - k); rejected = x.rejected }) (front_same x)
+      behind_all = ap (λ k. record { bid = x.bid; shares = record { standing = x.shares.standing; losing = x.shares.standing - min x.shares.standing (lots - k); rejected = x.shares.rejected } }) (front_same x)
 
       go : (b : Bool) → hands lots (map part xs) (cond b (hands lots xs x) x) ≡ hands lots xs x
       go true = behind_all

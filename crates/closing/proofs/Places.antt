@@ -24,15 +24,15 @@ numbered_from k (x ∷ xs) h = (omega (arith, h 0 (omega arith)), numbered_from 
 pub record Kept (x : StepRecord) : Type 0 where
   pub market_least : 1 ≤ x.bid.market
   pub market_most : x.bid.market ≤ 7
-  pub losing_most : x.losing ≤ x.standing
-  pub shares_most : x.standing + x.rejected ≤ 100
+  pub losing_most : x.shares.losing ≤ x.shares.standing
+  pub shares_most : x.shares.standing + x.shares.rejected ≤ 100
 
 kept : (x : StepRecord) → step_ok x ≡ true → Kept x
 kept x h =
-    let p = and_parts (offer_ok x.bid.market x.bid.discount) (shares_ok x.standing x.losing x.rejected) h in
+    let p = and_parts (offer_ok x.bid.market x.bid.discount) (shares_ok x.shares) h in
     let q = and_parts (leb 1 x.bid.market) _ p.0 in
     let o = and_parts (leb x.bid.market 7) _ q.1 in
-    let s = and_parts (leb x.losing x.standing) _ p.1 in
+    let s = and_parts (leb x.shares.losing x.shares.standing) _ p.1 in
     record { market_least = leb-true _ _ q.0; market_most = leb-true _ _ o.0; losing_most = leb-true _ _ s.0; shares_most = leb-true _ _ s.1 }
 
 -- the steps of a book, which are sound

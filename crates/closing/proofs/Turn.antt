@@ -27,7 +27,7 @@ pub walked_none : (m lots : ℕ) (xs : List StepRecord) → Walked m lots xs xs 
 walked_none m lots xs = record {
   steps = sym (map_same _ (λ x. x) xs (λ x i. ap (λ t. cond t (hands lots xs x) x) (none_served m xs x)) ∙ map-id xs);
   within = omega arith;
-  lots_left = omega (arith, total_none _ xs (λ x i. ap (λ t. cond t x.standing 0) (none_served m xs x)));
+  lots_left = omega (arith, total_none _ xs (λ x i. ap (λ t. cond t x.shares.standing 0) (none_served m xs x)));
   clears = sym (lowest_none _ xs (λ x i. ap (λ t. t && ltb 0 (wins lots xs x)) (none_served m xs x)));
 }
 

@@ -31,7 +31,7 @@ waiting m xs n = total (λ x. cond (eqb x.bid.market m && behind xs n x.bid) 1 0
 
 -- what the served stand with
 abbrev pub taken : ℕ → List StepRecord → ℕ → ℕ
-taken m xs n = total (λ x. cond (served m xs n x.bid) x.standing 0) xs
+taken m xs n = total (λ x. cond (served m xs n x.bid) x.shares.standing 0) xs
 
 -- x was served, and got a share
 abbrev pub won_by : ℕ → ℕ → List StepRecord → ℕ → StepRecord → Bool
@@ -136,15 +136,15 @@ module _ (m : ℕ) (xs : List StepRecord) (sound : SoundBelow xs (length xs)) (n
       ap (λ k. eqb x.bid.market k && before x.bid y.bid) next.market ∙ and_same (eqb x.bid.market m) _ _ (λ t. ranked x i (eqb-true _ _ t))
 
   front_taken : front bid_of standing_of xs y.bid ≡ taken m xs n
-  front_taken = total_same _ _ xs (λ x i. ap (λ t. cond t x.standing 0) (ahead_served x i))
+  front_taken = total_same _ _ xs (λ x i. ap (λ t. cond t x.shares.standing 0) (ahead_served x i))
 
   -- y's standing shares count as taken from now on
-  pub taken_more : taken m xs p ≡ taken m xs n + y.standing
+  pub taken_more : taken m xs p ≡ taken m xs n + y.shares.standing
   taken_more =
-      let before-p = λ (x : StepRecord). cond (served m xs n x.bid) x.standing 0 in
-      let at_p = λ (x : StepRecord). cond (served m xs p x.bid) x.standing 0 in
-      let same = total_one before-p at_p 1 xs (p - 1) (sound_numbered xs sound) place (λ x i ne. ap (λ t. cond t x.standing 0) (served_others x i (apart x ne))) in
-      omega (arith, same, ap (λ t. cond t y.standing 0) not_yet, ap (λ t. cond t y.standing 0) now_served)
+      let before-p = λ (x : StepRecord). cond (served m xs n x.bid) x.shares.standing 0 in
+      let at_p = λ (x : StepRecord). cond (served m xs p x.bid) x.shares.standing 0 in
+      let same = total_one before-p at_p 1 xs (p - 1) (sound_numbered xs sound) place (λ x i ne. ap (λ t. cond t x.shares.standing 0) (served_others x i (apart x ne))) in
+      omega (arith, same, ap (λ t. cond t y.shares.standing 0) not_yet, ap (λ t. cond t y.shares.standing 0) now_served)
 
   pub waiting_falls : waiting m xs p < waiting m xs n
   waiting_falls =
@@ -158,7 +158,7 @@ module _ (m : ℕ) (xs : List StepRecord) (sound : SoundBelow xs (length xs)) (n
   module _ (lots left : ℕ) (is-left : left ≡ lots - taken m xs n) where
     -- what y gets of the lots left is what it wins
     pub got_wins : gets left y ≡ wins lots xs y
-    got_wins = ap (λ k. min y.standing k) (is-left ∙ ap (λ k. lots - k) (sym front_taken))
+    got_wins = ap (λ k. min y.shares.standing k) (is-left ∙ ap (λ k. lots - k) (sym front_taken))
 
     -- y is as it was
     pub unchanged : at (handed (served m xs n) lots xs) p ≡ y
@@ -177,7 +177,7 @@ module _ (m : ℕ) (xs : List StepRecord) (sound : SoundBelow xs (length xs)) (n
         (awarded left y)
         (sound_numbered xs sound)
         place
-        (ap (λ k. record { bid = y.bid; standing = y.standing; losing = y.standing - k; rejected = y.rejected }) got_wins ∙ sym (ap (λ t. hand t y) now_served))
+        (ap (λ k. record { bid = y.bid; shares = record { standing = y.shares.standing; losing = y.shares.standing - k; rejected = y.shares.rejected } }) got_wins ∙ sym (ap (λ t. hand t y) now_served))
         (λ x i ne. ap (λ t. hand t x) (served_others x i (apart x ne)))
 
     -- a step that gets a share has the lowest discount so far

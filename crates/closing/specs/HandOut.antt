@@ -10,11 +10,11 @@ handed test lots xs = map (λ x. cond (test x.bid) (hands lots xs x) x) xs
 
 -- what a step gets of the lots left
 abbrev pub gets : ℕ → StepRecord → ℕ
-gets left x = min x.standing left
+gets left x = min x.shares.standing left
 
 -- the step that gets so much: the rest is losing
 abbrev pub awarded : ℕ → StepRecord → StepRecord
-awarded left x = record { bid = x.bid; standing = x.standing; losing = x.standing - gets left x; rejected = x.rejected }
+awarded left x = record { bid = x.bid; shares = record { standing = x.shares.standing; losing = x.shares.standing - gets left x; rejected = x.shares.rejected } }
 
 -- the clearing discount behind the step: its own if it gets a share, else that of the steps before
 abbrev pub cleared : ℕ → StepRecord → Option ℕ → Option ℕ

@@ -28,7 +28,7 @@ accounted_for : (es : List Entry) (xs : List StepRecord) (k m : ℕ) → es ≡ 
     of_both entry_bid entry_shares k m es ≡ of_both bid_of standing_of k m xs + of_both bid_of rejected_of k m xs
 accounted_for es xs k m e =
     ap (of_both entry_bid entry_shares k m) e ∙ total_map _ entry_of xs
-    ∙ total_same _ _ xs (λ x i. both (eqb x.bid.seat k && eqb x.bid.market m) x.standing x.rejected) ∙ total_plus _ _ xs
+    ∙ total_same _ _ xs (λ x i. both (eqb x.bid.seat k && eqb x.bid.market m) x.shares.standing x.shares.rejected) ∙ total_plus _ _ xs
   where
     both : (t : Bool) (a b : ℕ) → cond t (a + b) 0 ≡ cond t a 0 + cond t b 0
     both true a b = refl

@@ -19,7 +19,7 @@ calls =
 abbrev end : State
 end = run (fresh sheet 8 []) calls
 
-standings : map (λ (x : StepRecord). x.standing) end.steps ≡ (10 ∷ 60 ∷ 30 ∷ [])
+standings : map (λ (x : StepRecord). x.shares.standing) end.steps ≡ (10 ∷ 60 ∷ 30 ∷ [])
 unfolding ahead
 standings = refl
 
@@ -27,7 +27,7 @@ winnings : map won end.steps ≡ (10 ∷ 60 ∷ 30 ∷ [])
 unfolding ahead
 winnings = refl
 
-rejections : map (λ (x : StepRecord). x.rejected) end.steps ≡ (20 ∷ 0 ∷ 0 ∷ [])
+rejections : map (λ (x : StepRecord). x.shares.rejected) end.steps ≡ (20 ∷ 0 ∷ 0 ∷ [])
 unfolding ahead
 rejections = refl
 

@@ -14,32 +14,32 @@ use Rattle.rules.proofs.Ranks.{ahead_self, ahead_by_discount, ahead_market, fron
 
 -- what a step's entry has
 abbrev pub held : StepRecord → ℕ
-held x = x.standing + x.rejected
+held x = x.shares.standing + x.shares.rejected
 
 abbrev pub Above : ℕ → Option ℕ → Type 0
 Above d None = Unit {0}
 Above d (Some c) = d ≤ c
 
 pub record Fit (lots : ℕ) (xs : List StepRecord) (clearing : ℕ → Option ℕ) (x : StepRecord) : Type 0 where
-  pub fits : x.losing ≤ x.standing
-  pub filled : 0 < x.rejected + x.losing → lots ≤ front bid_of held xs x.bid + (x.standing - x.losing)
-  pub cleared : 0 < x.rejected + x.losing → Above x.bid.discount (clearing x.bid.market)
+  pub fits : x.shares.losing ≤ x.shares.standing
+  pub filled : 0 < x.shares.rejected + x.shares.losing → lots ≤ front bid_of held xs x.bid + (x.shares.standing - x.shares.losing)
+  pub cleared : 0 < x.shares.rejected + x.shares.losing → Above x.bid.discount (clearing x.bid.market)
 
 abbrev pub EachFits : ℕ → List StepRecord → (ℕ → Option ℕ) → Type 0
 EachFits lots xs clearing = (x : StepRecord) → In x xs → Fit lots xs clearing x
 
-new_fit : (lots : ℕ) (xs : List StepRecord) (clearing : ℕ → Option ℕ) (x n : StepRecord) → n.losing ≡ 0 → n.rejected ≡ 0 → x ≡ n → Fit lots xs clearing x
+new_fit : (lots : ℕ) (xs : List StepRecord) (clearing : ℕ → Option ℕ) (x n : StepRecord) → n.shares.losing ≡ 0 → n.shares.rejected ≡ 0 → x ≡ n → Fit lots xs clearing x
 new_fit lots xs clearing x n p q e =
-    let l : x.losing ≡ 0 = ap (λ y. y.losing) e ∙ p in
-    let r : x.rejected ≡ 0 = ap (λ y. y.rejected) e ∙ q in
+    let l : x.shares.losing ≡ 0 = ap (λ y. y.shares.losing) e ∙ p in
+    let r : x.shares.rejected ≡ 0 = ap (λ y. y.shares.rejected) e ∙ q in
     record { fits = omega arith; filled = λ h. absurd (omega arith); cleared = λ h. absurd (omega arith) }
 
 -- a step stays fit where no less is ahead of it
 still_fit : (lots : ℕ) (xs ys : List StepRecord) (clearing : ℕ → Option ℕ) (x : StepRecord) →
-    (0 < x.rejected + x.losing → front bid_of held xs x.bid ≤ front bid_of held ys x.bid) → Fit lots xs clearing x → Fit lots ys clearing x
+    (0 < x.shares.rejected + x.shares.losing → front bid_of held xs x.bid ≤ front bid_of held ys x.bid) → Fit lots xs clearing x → Fit lots ys clearing x
 still_fit lots xs ys clearing x h f = record { fits = f.fits; filled = λ l. omega (arith, h l, f.filled l); cleared = f.cleared }
 
-pub entered_fit : (lots : ℕ) (xs : List StepRecord) (clearing : ℕ → Option ℕ) (n : StepRecord) → n.losing ≡ 0 → n.rejected ≡ 0 →
+pub entered_fit : (lots : ℕ) (xs : List StepRecord) (clearing : ℕ → Option ℕ) (n : StepRecord) → n.shares.losing ≡ 0 → n.shares.rejected ≡ 0 →
     EachFits lots xs clearing → EachFits lots (xs ++ (n ∷ [])) clearing
 entered_fit lots xs clearing n p q h x i = go (in_push xs n x i)
   where
@@ -53,8 +53,8 @@ outbids (Some c) i d y l p q a = omega (arith, ltb-false d (c + i) q)
 
 -- a raise: s shares go from the step at place p to a new one n, of a larger discount
 module _ (lots : ℕ) (xs : List StepRecord) (clearing : ℕ → Option ℕ) (p s i : ℕ) (n : StepRecord) (within : p < length xs)
-    (enough : s ≤ (get_or xs p no_step).standing) (one : 1 ≤ i)
-    (same-market : n.bid.market ≡ (get_or xs p no_step).bid.market) (stands : n.standing ≡ s) (no-losing : n.losing ≡ 0) (no-rejected : n.rejected ≡ 0)
+    (enough : s ≤ (get_or xs p no_step).shares.standing) (one : 1 ≤ i)
+    (same-market : n.bid.market ≡ (get_or xs p no_step).bid.market) (stands : n.shares.standing ≡ s) (no-losing : n.shares.losing ≡ 0) (no-rejected : n.shares.rejected ≡ 0)
     (there : missing (clearing (get_or xs p no_step).bid.market) ≡ false)
     (outbid : short (clearing (get_or xs p no_step).bid.market) i n.bid.discount ≡ false)
     (raised : (get_or xs p no_step).bid.discount < n.bid.discount) (h : EachFits lots xs clearing) where
@@ -84,7 +84,7 @@ module _ (lots : ℕ) (xs : List StepRecord) (clearing : ℕ → Option ℕ) (p 
   pub raised_fit : EachFits lots raised_list clearing
   raised_fit x j = go (in_push _ n x j)
     where
-      old : In x xs → 0 < x.rejected + x.losing → (get_or xs p no_step).bid.market ≡ x.bid.market → x.bid.discount < n.bid.discount
+      old : In x xs → 0 < x.shares.rejected + x.shares.losing → (get_or xs p no_step).bid.market ≡ x.bid.market → x.bid.discount < n.bid.discount
       old k l m = outbids (clearing (get_or xs p no_step).bid.market) i n.bid.discount x.bid.discount one there outbid
           (subst (λ m. Above x.bid.discount (clearing m)) (sym m) ((h x k).cleared l))
 
@@ -140,23 +140,23 @@ module _ (lots : ℕ) (xs : List StepRecord) (clearing : ℕ → Option ℕ) (h 
   front_closed : (b : Bid) → front bid_of held after_closing b ≡ front bid_of held left b
   front_closed b = total_map (λ y. cond (ahead y.bid b) (held y) 0) (hands lots left) left
 
-  small : (z : StepRecord) → In z left → z.standing ≤ held z
+  small : (z : StepRecord) → In z left → z.shares.standing ≤ held z
   small z i = omega arith
 
-  gap : (z : StepRecord) → In z left → z.standing < held z → lots ≤ front bid_of held left z.bid + z.standing
+  gap : (z : StepRecord) → In z left → z.shares.standing < held z → lots ≤ front bid_of held left z.bid + z.shares.standing
   gap z i l =
       let w = in_map rejects xs z i in
       let x = w.0 in
-      let s : z.standing ≡ x.standing - x.losing = ap (λ y. y.standing) w.2 in
-      let r : z.rejected ≡ x.rejected + x.losing = ap (λ y. y.rejected) w.2 in
+      let s : z.shares.standing ≡ x.shares.standing - x.shares.losing = ap (λ y. y.shares.standing) w.2 in
+      let r : z.shares.rejected ≡ x.shares.rejected + x.shares.losing = ap (λ y. y.shares.rejected) w.2 in
       let b : front bid_of held left z.bid ≡ front bid_of held xs x.bid = front_left z.bid ∙ ap (λ y. front bid_of held xs y.bid) w.2 in
       omega (arith, (h x w.1).filled (omega arith))
 
   -- where z has rejected or losing shares after the closing, the lots are gone by then
-  gone : (z : StepRecord) → In z left → 0 < z.rejected + (z.standing - wins lots left z) → lots ≤ front bid_of standing_of left z.bid + z.standing
-  gone z i l = go (cases_lt 0 z.rejected)
+  gone : (z : StepRecord) → In z left → 0 < z.shares.rejected + (z.shares.standing - wins lots left z) → lots ≤ front bid_of standing_of left z.bid + z.shares.standing
+  gone z i l = go (cases_lt 0 z.shares.rejected)
     where
-      go : (0 < z.rejected) ⊎ (z.rejected ≤ 0) → lots ≤ front bid_of standing_of left z.bid + z.standing
+      go : (0 < z.shares.rejected) ⊎ (z.shares.rejected ≤ 0) → lots ≤ front bid_of standing_of left z.bid + z.shares.standing
       go (inl r) = gone_by bid_of standing_of held lots left small gap z i (omega arith)
       go (inr r) = omega arith
 
@@ -167,12 +167,12 @@ module _ (lots : ℕ) (xs : List StepRecord) (clearing : ℕ → Option ℕ) (h 
     cleared = λ l. least_above z.bid.discount z.bid.market after_closing (beats l);
   }
     where
-      fill : 0 < z.rejected + (z.standing - wins lots left z) → (front bid_of standing_of left z.bid ≡ front bid_of held left z.bid) ⊎ (lots ≤ front bid_of standing_of left z.bid) →
-          lots ≤ front bid_of held after_closing z.bid + (z.standing - (z.standing - wins lots left z))
+      fill : 0 < z.shares.rejected + (z.shares.standing - wins lots left z) → (front bid_of standing_of left z.bid ≡ front bid_of held left z.bid) ⊎ (lots ≤ front bid_of standing_of left z.bid) →
+          lots ≤ front bid_of held after_closing z.bid + (z.shares.standing - (z.shares.standing - wins lots left z))
       fill l (inl e) = omega (arith, gone z i l, front_closed z.bid)
       fill l (inr k) = omega (arith, front_closed z.bid, front_le bid_of standing_of held left z.bid small)
 
-      beats : 0 < z.rejected + (z.standing - wins lots left z) → (y : StepRecord) → In y after_closing → y.bid.market ≡ z.bid.market → 0 < won y → z.bid.discount ≤ y.bid.discount
+      beats : 0 < z.shares.rejected + (z.shares.standing - wins lots left z) → (y : StepRecord) → In y after_closing → y.bid.market ≡ z.bid.market → 0 < won y → z.bid.discount ≤ y.bid.discount
       beats l y j m g =
           let w = in_map (hands lots left) left y j in
           let u = w.0 in

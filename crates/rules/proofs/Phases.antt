@@ -6,7 +6,7 @@ use Rattle.std.proofs.lemmas.Bool.{eqb-true, eqb-false, ltb-false, leb-false, bo
 use Rattle.rules.specs.Lists.{In, listed}
 use Rattle.sheets.specs.Figures.{Figures, Lawful}
 use Rattle.steps.specs.declared.record.StepRecord.{StepRecord}
-use Rattle.steps.specs.Rule.{no_step}
+use Rattle.steps.specs.Rule.{no_step, all_standing}
 use Rattle.rules.specs.Books.{bid_of, standing_of, rejects, hands, least, weighted}
 use Rattle.rules.specs.declared.account.Account.{Account}
 use Rattle.rules.specs.Sales.{State, fresh, nobody, account, increment, clearing_at, standing_weight, won_in, outside, taken, short, less, new_step, dollars, fixed, next_round, carried, settled_steps, Call, start, changeover, opening, enter, raise, close, Test, tests, Verdict, passed, failed, unless, verdict_of, verdict, done, answer, by_verdict, reply, after, run}
@@ -111,9 +111,7 @@ entry_with number seat market discount stamp shares = record { bid = record { nu
 abbrev step_with : List StepRecord → ℕ → ℕ → ℕ → ℕ → ℕ → StepRecord
 step_with xs seat market shares discount stamp = record {
   bid = record { number = suc (length xs); seat = seat; market = market; discount = discount; stamp = stamp };
-  standing = shares;
-  losing = 0;
-  rejected = 0;
+  shares = all_standing shares;
 }
 
 new_same : (es : List Entry) (xs : List StepRecord) → es ≡ map entry_of xs → (seat market shares discount stamp : ℕ) →
@@ -154,7 +152,7 @@ enters s t seat market shares discount stamp g p =
     at_new x (inr e) = let q = ap (λ y. y.bid.market) e in omega (arith, inside market s.figures.markets p.1.1.0)
 
     F : ℕ → StepRecord → ℕ
-    F k x = cond (eqb x.bid.seat (suc k)) (x.standing * s.figures.weight x.bid.market) 0
+    F k x = cond (eqb x.bid.seat (suc k)) (x.shares.standing * s.figures.weight x.bid.market) 0
 
     covers : (k : ℕ) (b : Bool) → eqb seat (suc k) ≡ b → weighted s.figures.weight (suc k) standing_of (s.steps ++ (new_step s seat market shares discount stamp ∷ [])) ≤ (account s k).eligible
     covers k true e =
@@ -166,7 +164,7 @@ enters s t seat market shares discount stamp g p =
         omega (arith, total_push (F k) s.steps (new_step s seat market shares discount stamp), ap (λ b. cond b (shares * s.figures.weight market) 0) e, g.covered k)
 
 -- shares of an entry moved to a new one, beside the step's
-moved_entry : (es : List Entry) (xs : List StepRecord) → es ≡ map entry_of xs → (i shares discount stamp : ℕ) → i < length xs → shares ≤ (get_or xs i no_step).standing →
+moved_entry : (es : List Entry) (xs : List StepRecord) → es ≡ map entry_of xs → (i shares discount stamp : ℕ) → i < length xs → shares ≤ (get_or xs i no_step).shares.standing →
     set es i (fewer shares (get_or es i no_entry)) ++ (new_entry es (get_or es i no_entry).bid.seat (get_or es i no_entry).bid.market shares discount stamp ∷ [])
     ≡ map entry_of (set xs i (less shares (get_or xs i no_step)) ++ (step_with xs (get_or xs i no_step).bid.seat (get_or xs i no_step).bid.market shares discount stamp ∷ []))
 moved_entry es xs e i shares discount stamp l enough =
@@ -218,8 +216,8 @@ raises s t seat number shares discount stamp g p =
     there : number - 1 < length s.steps
     there = omega (arith, inside number (length s.steps) p.1.1.0)
 
-    enough : (1 ≤ shares) × (shares ≤ x.standing)
-    enough = inside shares x.standing p.1.1.1.1.0
+    enough : (1 ≤ shares) × (shares ≤ x.shares.standing)
+    enough = inside shares x.shares.standing p.1.1.1.1.0
 
     bids : (short (clearing_at s x.bid.market) (increment s x.bid.market) discount ≡ false) × (leb discount x.bid.discount ≡ false)
     bids = or_parts (short (clearing_at s x.bid.market) (increment s x.bid.market) discount) (leb discount x.bid.discount) p.1.1.1.1.1.1.1.1.0

@@ -1,4 +1,5 @@
 -- How many rounds a sale can have: past the opening rounds each but the last has a raise, which adds a step to one that was there.
+use Rattle.std.specs.List.{AllByRecursion}
 use Rattle.std.proofs.Common.{◌≡◌, ℕ, zero, suc, ◌+◌, ◌-◌, ◌<◌, ◌≤◌, max, Bool, true, false, not, ◌&&◌, eqb, ltb, ◌⊎◌, List, [], ◌∷◌, map, length, set, sym, refl, ap, ◌∙◌, inl, inr, arith, length-set}
 use lib.ListN.{length-map}
 use Rattle.std.proofs.lemmas.List.{length_push}
@@ -9,7 +10,6 @@ use Rattle.rules.specs.declared.account.Account.{Account}
 use Rattle.rules.specs.Parts.{begun, unsold}
 use Rattle.rules.specs.Sales.{State, fresh, step_at, taken, Verdict, passed, failed, dollars, carried, new_step, less, Call, start, changeover, opening, enter, raise, close, tests, verdict, done, by_verdict, after, run}
 use Rattle.rules.specs.Books.{rejects, hands}
-use Rattle.rules.specs.Lists.{All}
 use Rattle.rules.specs.Fair.{Seated, RealCall}
 use Rattle.rules.specs.Rounds.{most_rounds}
 use Rattle.rules.proofs.Weights.{length_lapses, length_carried}
@@ -139,7 +139,7 @@ timely_after s c t f = go (verdict s c) refl
     go passed e = timely_done s c t f (all_pass (tests s c) e)
     go (failed n) e = t
 
-timely_run : (s : State) (cs : List Call) → Timely s → All (RealCall Peopled) cs → Timely (run s cs)
+timely_run : (s : State) (cs : List Call) → Timely s → AllByRecursion (RealCall Peopled) cs → Timely (run s cs)
 timely_run s [] t f = t
 timely_run s (c ∷ cs) t f = timely_run (after s c) cs (timely_after s c t f.0) f.1
 
@@ -152,7 +152,7 @@ fresh_timely f size book = record {
   unbegun = λ _. record { no_round = refl; over = refl; shut = refl };
 }
 
-pub few_rounds : (f : Figures) (size : ℕ) (book : List StepRecord) (calls : List Call) → All (RealCall Peopled) calls →
+pub few_rounds : (f : Figures) (size : ℕ) (book : List StepRecord) (calls : List Call) → AllByRecursion (RealCall Peopled) calls →
     (run (fresh f size book) calls).round ≤ most_rounds (run (fresh f size book) calls)
 few_rounds f size book calls real = go (length s.accounts) refl (timely_run (fresh f size book) calls (fresh_timely f size book) real)
   where

@@ -1,8 +1,9 @@
 -- Every run is fair.
+use Rattle.std.specs.List.{AllByRecursion}
 use Rattle.std.proofs.Common.{◌≡◌, ℕ, zero, suc, ◌+◌, ◌-◌, ◌*◌, ◌<◌, ◌≤◌, false, eqb, ◌⊎◌, List, [], ◌∷◌, ◌++◌, length, get_or, sym, refl, ap, ◌∙◌, subst, inl, inr, arith}
 use lib.ListN.{length-map}
 use Rattle.std.proofs.lemmas.Bool.{eqb-false, ltb-false, both_ways, not-false, cases_lt}
-use Rattle.rules.specs.Lists.{In, All}
+use Rattle.rules.specs.Lists.{In}
 use Rattle.sheets.specs.Figures.{Lawful}
 use Rattle.steps.specs.declared.record.StepRecord.{StepRecord}
 use Rattle.rules.specs.Books.{won, of_seat}
@@ -100,7 +101,7 @@ sound_after s c h r = go (verdict s c) refl
     go passed e = sound_done s c h r (all_pass (tests s c) e)
     go (failed n) e = h
 
-sound_run : (s : State) (cs : List Call) → Sound s → All (RealCall Sound) cs → Sound (run s cs)
+sound_run : (s : State) (cs : List Call) → Sound s → AllByRecursion (RealCall Sound) cs → Sound (run s cs)
 sound_run s [] h r = h
 sound_run s (c ∷ cs) h r = sound_run (after s c) cs (sound_after s c h r.0) r.1
 
@@ -112,7 +113,7 @@ real_call P Q f (enter seat market shares discount stamp) r = tt
 real_call P Q f (raise seat number shares discount stamp) r = tt
 real_call P Q f close r = tt
 
-pub real_calls : (P Q : State → Type 0) → ((s : State) → P s → Q s) → (cs : List Call) → All (RealCall P) cs → All (RealCall Q) cs
+pub real_calls : (P Q : State → Type 0) → ((s : State) → P s → Q s) → (cs : List Call) → AllByRecursion (RealCall P) cs → AllByRecursion (RealCall Q) cs
 real_calls P Q f [] r = tt
 real_calls P Q f (c ∷ cs) r = (real_call P Q f c r.0, real_calls P Q f cs r.1)
 

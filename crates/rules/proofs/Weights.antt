@@ -23,21 +23,21 @@ module _ (w : ℕ → ℕ) (k : ℕ) where
 
   pub weighted_closed : (lots : ℕ) (xs : List StepRecord) → weighted w k standing_of (settled lots (map rejects xs)) ≤ weighted w k standing_of xs
   weighted_closed lots xs =
-      let F : StepRecord → ℕ = λ x. cond (eqb x.bid.seat k) (x.standing * w x.bid.market) 0 in
-      omega (arith, total_map F (hands lots (map rejects xs)) (map rejects xs), total_map F rejects xs, weighted_le (λ x. x.standing - x.losing) standing_of xs (λ x i. omega arith))
+      let F : StepRecord → ℕ = λ x. cond (eqb x.bid.seat k) (x.shares.standing * w x.bid.market) 0 in
+      omega (arith, total_map F (hands lots (map rejects xs)) (map rejects xs), total_map F rejects xs, weighted_le (λ x. x.shares.standing - x.shares.losing) standing_of xs (λ x i. omega arith))
 
   moved : (t : Bool) (n s c : ℕ) → s ≤ n → cond t ((n - s) * c) 0 + cond t (s * c) 0 ≡ cond t (n * c) 0
   moved true n s c l = sym (add-mul (n - s) s c) ∙ ap (λ m. m * c) (omega arith)
   moved false n s c l = refl
 
-  pub weighted_raised : (xs : List StepRecord) (p s : ℕ) (n : StepRecord) → p < length xs → s ≤ (get_or xs p no_step).standing →
-      n.bid.seat ≡ (get_or xs p no_step).bid.seat → n.bid.market ≡ (get_or xs p no_step).bid.market → n.standing ≡ s →
+  pub weighted_raised : (xs : List StepRecord) (p s : ℕ) (n : StepRecord) → p < length xs → s ≤ (get_or xs p no_step).shares.standing →
+      n.bid.seat ≡ (get_or xs p no_step).bid.seat → n.bid.market ≡ (get_or xs p no_step).bid.market → n.shares.standing ≡ s →
       weighted w k standing_of (set xs p (less s (get_or xs p no_step)) ++ (n ∷ [])) ≡ weighted w k standing_of xs
   weighted_raised xs p s n within enough seats markets stands =
-      let F : StepRecord → ℕ = λ x. cond (eqb x.bid.seat k) (x.standing * w x.bid.market) 0 in
+      let F : StepRecord → ℕ = λ x. cond (eqb x.bid.seat k) (x.shares.standing * w x.bid.market) 0 in
       let z = get_or xs p no_step in
       let new : F n ≡ cond (eqb z.bid.seat k) (s * w z.bid.market) 0 = rw (seats, markets, stands) in
-      omega (arith, total_push F (set xs p (less s z)) n, total_set F xs p (less s z) no_step within, new, moved (eqb z.bid.seat k) z.standing s (w z.bid.market) enough)
+      omega (arith, total_push F (set xs p (less s z)) n, total_set F xs p (less s z) no_step within, new, moved (eqb z.bid.seat k) z.shares.standing s (w z.bid.market) enough)
 
   -- where each step is of market 1
   pub one_market : (f : StepRecord → ℕ) (xs : List StepRecord) → ((x : StepRecord) → In x xs → x.bid.market ≡ 1) → weighted w k f xs ≡ w 1 * of_seat k f xs

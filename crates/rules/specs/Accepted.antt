@@ -11,7 +11,7 @@ use Rattle.rules.specs.Fair.{Seated}
 
 -- the rejected shares of a step
 abbrev pub rejected_of : StepRecord → ℕ
-rejected_of x = x.rejected
+rejected_of x = x.shares.rejected
 
 -- the sum of f over those of xs that are of the seat k and the market m
 abbrev pub of_both : {X : Type 0} → (X → Bid) → (X → ℕ) → ℕ → ℕ → List X → ℕ

@@ -17,22 +17,22 @@ abbrev pub bid_of : StepRecord → Bid
 bid_of x = x.bid
 
 abbrev pub standing_of : StepRecord → ℕ
-standing_of x = x.standing
+standing_of x = x.shares.standing
 
 -- a step wins what stands and isn't losing
 abbrev pub won : StepRecord → ℕ
-won x = x.standing - x.losing
+won x = x.shares.standing - x.shares.losing
 
 -- a closing's two passes over a step
 abbrev pub rejects : StepRecord → StepRecord
-rejects x = record { bid = x.bid; standing = x.standing - x.losing; losing = 0; rejected = x.rejected + x.losing }
+rejects x = record { bid = x.bid; shares = record { standing = x.shares.standing - x.shares.losing; losing = 0; rejected = x.shares.rejected + x.shares.losing } }
 
 -- what a step gets of the lots: its standing shares, as far as they reach behind all that rank ahead of it
 abbrev pub wins : ℕ → List StepRecord → StepRecord → ℕ
-wins lots xs x = min x.standing (lots - front bid_of standing_of xs x.bid)
+wins lots xs x = min x.shares.standing (lots - front bid_of standing_of xs x.bid)
 
 abbrev pub hands : ℕ → List StepRecord → StepRecord → StepRecord
-hands lots xs x = record { bid = x.bid; standing = x.standing; losing = x.standing - wins lots xs x; rejected = x.rejected }
+hands lots xs x = record { bid = x.bid; shares = record { standing = x.shares.standing; losing = x.shares.standing - wins lots xs x; rejected = x.shares.rejected } }
 
 abbrev pub settled : ℕ → List StepRecord → List StepRecord
 settled lots xs = map (hands lots xs) xs

@@ -2,6 +2,7 @@
 use Rattle.std.specs.Prelude.{◌≡◌, ℕ, Bool, true, false, List, [], ◌∷◌, map, Some, Err}
 use Rattle.sheets.specs.Phases.{full_term, single_year}
 use Rattle.steps.specs.declared.record.StepRecord.{StepRecord}
+use Rattle.steps.specs.Rule.{all_standing}
 use Rattle.rules.specs.declared.account.Account.{Account}
 use Rattle.rules.specs.declared.fault.SaleFault.TheVariants.{DepositSize}
 use Rattle.rules.specs.Books.{won, settled, least}
@@ -12,9 +13,7 @@ use Rattle.rules.specs.Bonds.{bond}
 abbrev pub entered_at : ℕ → ℕ → ℕ → ℕ → StepRecord
 entered_at number discount stamp shares = record {
   bid = record { number = number; seat = 1; market = 1; discount = discount; stamp = stamp };
-  standing = shares;
-  losing = 0;
-  rejected = 0;
+  shares = all_standing shares;
 }
 
 -- nine steps of one market, in rank: the fifth and the sixth tie in discount, and so do the last two; of each pair the earlier stamp has the higher number
@@ -83,7 +82,7 @@ pub record WorkedCases : Type 0 where
   pub carried_from_bought : map (λ (a : Account). a.eligible) (carried cut_sale 1 (cut_account ∷ [])) ≡ (10_000 ∷ [])
   pub remainder_kept : (n : ℕ) (x : StepRecord) → (less n x).bid ≡ x.bid
   -- a raise takes the losing part first: of 30 standing shares, 10 of them losing, 15 are raised
-  pub losing_first : (less 15 (record { bid = (entered_at 1 400 7 30).bid; standing = 30; losing = 10; rejected = 0 })).losing ≡ 0
+  pub losing_first : (less 15 (record { bid = (entered_at 1 400 7 30).bid; shares = record { standing = 30; losing = 10; rejected = 0 } })).shares.losing ≡ 0
   -- a closing ends a sale past its opening rounds, unless there was a raise
   pub opening_goes_on : ends (at_round 1 false) ≡ false
   pub quiet_round_ends : ends (at_round 2 false) ≡ true

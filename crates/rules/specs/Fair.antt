@@ -1,6 +1,6 @@
 -- What is proved of every run of a sale.
+use Rattle.std.specs.List.{AllByRecursion}
 use Rattle.std.specs.Prelude.{◌≡◌, ℕ, zero, suc, ◌+◌, ◌<◌, ◌≤◌, List, ◌∷◌, ◌++◌, map, length}
-use Rattle.rules.specs.Lists.{All}
 use Rattle.sheets.specs.Figures.{Figures, Lawful}
 use Rattle.steps.specs.declared.record.StepRecord.{StepRecord}
 use Rattle.rules.specs.Books.{won, of_market, weighted}
@@ -8,7 +8,7 @@ use Rattle.rules.specs.Sales.{State, fresh, account, standing_weight, won_in, Ca
 use Rattle.rules.specs.Tallies.{Tally, Entry, blank, tally, gets}
 
 abbrev pub entry_of : StepRecord → Entry
-entry_of x = record { bid = x.bid; shares = x.standing + x.rejected }
+entry_of x = record { bid = x.bid; shares = x.shares.standing + x.shares.rejected }
 
 abbrev pub Seated : State → Type 0
 Seated s = 0 < length s.accounts
@@ -45,7 +45,7 @@ RealCall R close = Unit {0}
 abbrev pub Real : ℕ → State → Type 0
 Real zero s = ⊥
 Real (suc n) s =
-    (f : Figures) × Lawful f × (size : ℕ) × (book : List StepRecord) × (calls : List Call) × All (RealCall (Real n)) calls × (s ≡ run (fresh f size book) calls)
+    (f : Figures) × Lawful f × (size : ℕ) × (book : List StepRecord) × (calls : List Call) × AllByRecursion (RealCall (Real n)) calls × (s ≡ run (fresh f size book) calls)
 
 -- a second sale s, after an accepted closing, beside the first
 pub record Shared (first s : State) : Type 0 where
@@ -83,7 +83,7 @@ pub record FairOutcome (s : State) (book : List StepRecord) (calls : List Call) 
   pub shares : Shares s book calls
   -- so that a round's number stays below the largest, and its next is one more
   pub rounds : s.round ≤ length calls
-  pub real : (n : ℕ) → All (RealCall (Real n)) calls → Real (suc n) s
+  pub real : (n : ℕ) → AllByRecursion (RealCall (Real n)) calls → Real (suc n) s
 
 -- whatever calls led to s, these more lead fairly to s'
 unfoldable pub StaysFair : State → List Call → State → Type 0

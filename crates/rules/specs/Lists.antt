@@ -13,10 +13,6 @@ abbrev pub In : {X : Type 0} → X → List X → Type 0
 In x [] = ⊥
 In x (y ∷ ys) = (x ≡ y) ⊎ In x ys
 
-abbrev pub All : {X : Type 0} → (X → Type 0) → List X → Type 0
-All P [] = Unit {0}
-All P (x ∷ xs) = P x × All P xs
-
 -- f at k, k + 1 and so on, n of them
 abbrev pub listed : {X : Type 0} → (ℕ → X) → ℕ → ℕ → List X
 listed f k zero = []

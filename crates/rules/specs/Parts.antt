@@ -10,7 +10,7 @@ use Rattle.rules.specs.Sales.{State, account, standing_weight, won_in, next_roun
 
 -- the losing shares of a step
 abbrev pub losing_of : StepRecord → ℕ
-losing_of x = x.losing
+losing_of x = x.shares.losing
 
 -- a sale with these lots and accounts that begins: everything else is as it was, but it has not ended
 abbrev pub begun : State → ℕ → List Account → State

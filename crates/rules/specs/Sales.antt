@@ -9,7 +9,7 @@ use Rattle.rules.specs.declared.fault.SaleFault.TheVariants.{Book, SeatCount, De
 use Rattle.rules.specs.Lists.{total, any, listed}
 use Rattle.sheets.specs.Figures.{Figures}
 use Rattle.steps.specs.declared.record.StepRecord.{StepRecord}
-use Rattle.steps.specs.Rule.{no_step}
+use Rattle.steps.specs.Rule.{no_step, all_standing}
 use Rattle.rules.specs.Books.{won, rejects, settled, least, weighted, of_seat, standing_of}
 
 -- the state of a sale: its sheet's figures, its book's size and steps, and its own figures
@@ -162,7 +162,7 @@ tests s (raise seat number shares discount stamp) =
     ∷ refuse NoSeat (outside seat (length s.accounts))
     ∷ refuse (Book NoStep) (outside number (length s.steps))
     ∷ refuse OtherSeat (not (x.bid.seat == seat))
-    ∷ refuse RaiseShares (outside shares x.standing)
+    ∷ refuse RaiseShares (outside shares x.shares.standing)
     ∷ refuse DiscountSize (nat_lt 10_000 discount)
     ∷ refuse StampBehind (nat_lt stamp s.last_stamp)
     ∷ refuse NoClearing (missing (clearing_at s x.bid.market))
@@ -194,14 +194,12 @@ next_round s = min (s.round + 1) (2 ^ 64 - 1)
 abbrev pub new_step : State → ℕ → ℕ → ℕ → ℕ → ℕ → StepRecord
 new_step s seat market shares discount stamp = record {
   bid = record { number = suc (length s.steps); seat = seat; market = market; discount = discount; stamp = stamp };
-  standing = shares;
-  losing = 0;
-  rejected = 0;
+  shares = all_standing shares;
 }
 
 -- shares are taken out of a step, its losing part first
 abbrev pub less : ℕ → StepRecord → StepRecord
-less n x = record { bid = x.bid; standing = x.standing - n; losing = x.losing - min n x.losing; rejected = x.rejected }
+less n x = record { bid = x.bid; shares = record { standing = x.shares.standing - n; losing = x.shares.losing - min n x.shares.losing; rejected = x.shares.rejected } }
 
 -- the activity owed in a round, from the eligibility now, rounded up
 abbrev pub owed : Figures → ℕ → ℕ → ℕ
@@ -327,7 +325,7 @@ answer s (changeover first) = Told (first.lots - won_in first)
 answer s (opening row) = Told (next_round s)
 answer s (enter seat market shares discount stamp) = Told (suc (length s.steps))
 answer s (raise seat number shares discount stamp) = Told (suc (length s.steps))
-answer s close = Closed (total (λ x. x.losing) s.steps) (ends s)
+answer s close = Closed (total (λ x. x.shares.losing) s.steps) (ends s)
 
 abbrev pub by_verdict : {X : Type 0} → Verdict → X → (SaleFault → X) → X
 by_verdict passed x y = x

@@ -52,4 +52,4 @@ pub record WorkedSales : Type 0 where
   pub second_wins : map won (after second_sale close).steps ≡ (10 ∷ 20 ∷ 30 ∷ [])
   pub second_shares : Shared first_sale (after second_sale close)
   -- of a step with 30 shares standing, 10 of them losing, a raise of 15 leaves 15 standing
-  pub raised_stands : (less 15 (record { bid = (entered_at 1 400 7 30).bid; standing = 30; losing = 10; rejected = 0 })).standing ≡ 15
+  pub raised_stands : (less 15 (record { bid = (entered_at 1 400 7 30).bid; shares = record { standing = 30; losing = 10; rejected = 0 } })).shares.standing ≡ 15

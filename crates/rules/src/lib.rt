@@ -18,20 +18,16 @@ pub use answer::Answer;
 pub use fault::SaleFault;
 
 /// Carries the theorem over every run as its contract: that it is fair, and besides that lots go down the rank, that accepted shares are accounted for, and how many rounds there can be.
-pub fn runs_are_fair() -> u8
+pub fn runs_are_fair()
     ensures fair { RunsAreFair }
     ensures down_the_rank { RunsDownTheRank }
     ensures accounted { RunsAccounted }
     ensures bounded { RoundsBounded }
-{
-    0
-}
+{}
 
 /// Carries the worked cases, proved together, as its contract, with whole sales and each limit at its edge.
-pub fn cases_hold() -> u8
+pub fn cases_hold()
     ensures cases { WorkedCases }
     ensures sales { WorkedSales }
     ensures edges { EdgesHold }
-{
-    0
-}
+{}

@@ -38,7 +38,7 @@ most_all i m n few so_far = omega (arith, mul-le-mul_right m few)
 
 -- what a step x of the seat adds, where y is a copy of it
 pub seat_weight : (weight : ℕ → ℕ) (seat : ℕ) (x y : StepRecord) (w : ℕ) → y ≡ x → y.bid.seat ≡ seat → w ≡ weight y.bid.market
-    → y.standing * w ≡ cond (eqb x.bid.seat seat) (x.standing * weight x.bid.market) 0
+    → y.shares.standing * w ≡ cond (eqb x.bid.seat seat) (x.shares.standing * weight x.bid.market) 0
 seat_weight weight seat x y w same own is =
-    ap (λ n. y.standing * n) is ∙ sym (cond-true _ _ _ (eq-eqb _ _ own))
-    ∙ ap (λ (z : StepRecord). cond (eqb z.bid.seat seat) (z.standing * weight z.bid.market) 0) same
+    ap (λ n. y.shares.standing * n) is ∙ sym (cond-true _ _ _ (eq-eqb _ _ own))
+    ∙ ap (λ (z : StepRecord). cond (eqb z.bid.seat seat) (z.shares.standing * weight z.bid.market) 0) same
