@@ -1,7 +1,8 @@
 //! A book over any memory of steps.
-ghost use Rattle.std.specs.Prelude.{◌≡◌, ◌+◌, ◌≤◌, List, length};
+ghost use Rattle.std.specs.Prelude.{◌≡◌, ◌+◌, ◌≤◌, true, false, List, length, MatchResult};
 ghost use Rattle.steps.specs.declared.record.StepRecord.{StepRecord as Record};
-ghost use Rattle.books.specs.Replies.{entered};
+ghost use Rattle.steps.specs.declared.fault.BookFault.TheVariants.{NoStep};
+ghost use Rattle.books.specs.Replies.{entered, held, at};
 
 use crate::book::{StepBook, place_of};
 use crate::memory::StepMemory;
@@ -37,6 +38,18 @@ fn len<M: StepMemory>(memory: &M) -> usize
     memory.records().len()
 }
 
+// The record of the step of that number.
+fn record_of<M: StepMemory>(memory: &M, number: u16) -> Result<StepRecord, BookFault>
+    ensures { MatchResult result (λ x. (held (M.StepMemory.steps memory.now) number ≡ true) × (x ≡ at (M.StepMemory.steps memory.now) number)) (λ f. (held (M.StepMemory.steps memory.now) number ≡ false) × (f ≡ NoStep)) }
+{
+    let place = place_of(number).ok_or(BookFault::NoStep)?;
+    memory
+        .records()
+        .get(place)
+        .copied()
+        .ok_or(BookFault::NoStep)
+}
+
 impl<M: StepMemory> StepBook for M {
     ghost size = { M.StepMemory.size };
 
@@ -60,9 +73,7 @@ impl<M: StepMemory> StepBook for M {
     }
 
     fn read(&self, number: u16) -> Result<Step, BookFault> {
-        let place = place_of(number).ok_or(BookFault::NoStep)?;
-        let record = self.records().get(place).ok_or(BookFault::NoStep)?;
-        Step::checked(*record).ok_or(BookFault::NoStep)
+        Step::checked(record_of(self, number)?).ok_or(BookFault::NoStep)
     }
 
     fn set(&mut self, number: u16, shares: Shares) -> Result<(), BookFault> {

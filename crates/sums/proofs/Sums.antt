@@ -1,5 +1,5 @@
 -- Sums over the steps of a book, one step more, and their bounds.
-use Rattle.std.proofs.Common.{◌≡◌, ℕ, ◌+◌, ◌*◌, ◌<◌, ◌≤◌, false, cond, eqb, List, length, get_or, take, sym, ap, ◌∙◌, mul-le-mul_right, add-mul, arith}
+use Rattle.std.proofs.Common.{◌≡◌, ℕ, ◌+◌, ◌-◌, ◌*◌, ◌<◌, ◌≤◌, false, cond, eqb, List, length, get_or, take, sym, ap, ◌∙◌, mul-le-mul_right, add-mul, arith}
 use Rattle.std.proofs.lemmas.List.{take_all, take_more}
 use Rattle.std.proofs.lemmas.Bool.{cond-true, eq-eqb, and_from, le-leb, both_ways}
 use Rattle.steps.specs.declared.record.StepRecord.{StepRecord}
@@ -12,25 +12,27 @@ use Rattle.rules.proofs.Totals.{total_push}
 pub first_part : {p : ℕ × ℕ} (a b : ℕ) → p ≡ (a, b) → p.0 ≡ a
 first_part a b e = ap (λ (q : ℕ × ℕ). q.0) e
 
--- a book has a step at each place below its length
-pub none_missing : (xs : List StepRecord) (i : ℕ) → i < length xs → held xs (i + 1) ≡ false → ⊥
-none_missing xs i within lacks = both_ways (held xs (i + 1)) lacks (and_from _ _ (le-leb 1 (i + 1) (omega arith)) (le-leb (i + 1) (length xs) (omega arith)))
+-- a book has a step of each number up to its length
+pub none_missing : (xs : List StepRecord) (number : ℕ) → 1 ≤ number → number ≤ length xs → held xs number ≡ false → ⊥
+none_missing xs number one most lacks = both_ways (held xs number) lacks (and_from _ _ (le-leb 1 number one) (le-leb number (length xs) most))
 
--- the sum over the first i + 1 steps, where v is what the step read at that number adds
-pub sum_more : (f : StepRecord → ℕ) (xs : List StepRecord) (i : ℕ) (x : StepRecord) (n v : ℕ) → i < length xs → x ≡ at xs (i + 1) → n ≡ total f (take i xs) → v ≡ f x
-    → n + v ≡ total f (take (i + 1) xs)
-sum_more f xs i x n v within read so_far adds =
-    let same : f (get_or xs i no_step) ≡ f x = ap f (ap (λ k. get_or xs k no_step) (omega arith) ∙ sym read) in
-    let more : total f (take (i + 1) xs) ≡ total f (take i xs) + f (get_or xs i no_step) = ap (total f) (take_more xs i no_step within) ∙ total_push f (take i xs) (get_or xs i no_step) in
+-- the sum over the steps up to that number, where v is what the step read at it adds
+pub sum_more : (f : StepRecord → ℕ) (xs : List StepRecord) (number : ℕ) (x : StepRecord) (n v : ℕ) → 1 ≤ number → number ≤ length xs → x ≡ at xs number
+    → n ≡ total f (take (number - 1) xs) → v ≡ f x → n + v ≡ total f (take number xs)
+sum_more f xs number x n v one most read so_far adds =
+    let within : number - 1 < length xs = omega arith in
+    let same : f (get_or xs (number - 1) no_step) ≡ f x = ap f (sym read) in
+    let more : total f (take (number - 1 + 1) xs) ≡ total f (take (number - 1) xs) + f (get_or xs (number - 1) no_step) = ap (total f) (take_more xs (number - 1) no_step within) ∙ total_push f (take (number - 1) xs) (get_or xs (number - 1) no_step) in
+    let back : number - 1 + 1 ≡ number = omega arith in
+    let all : total f (take (number - 1 + 1) xs) ≡ total f (take number xs) = ap (λ k. total f (take k xs)) back in
     omega arith
 
--- .. and over all of them, where none is left
-pub sum_all : (f : StepRecord → ℕ) (xs : List StepRecord) (i n : ℕ) → length xs ≤ i → n ≡ total f (take i xs) → n ≡ total f xs
-sum_all f xs i n past so_far = so_far ∙ ap (total f) (take_all i xs past)
-
--- each of i steps added at most m, and so does one more
-pub most_more : (i m n v : ℕ) → n ≤ i * m → v ≤ m → n + v ≤ (i + 1) * m
-most_more i m n v so_far adds = omega (arith, add-mul i 1 m)
+-- each of the numbers before it added at most m, and so does one more
+pub most_more : (number m n v : ℕ) → 1 ≤ number → n ≤ (number - 1) * m → v ≤ m → n + v ≤ number * m
+most_more number m n v one so_far adds =
+    let back : number - 1 + 1 ≡ number = omega arith in
+    let more : (number - 1 + 1) * m ≡ number * m = ap (λ k. k * m) back in
+    omega (arith, add-mul (number - 1) 1 m)
 
 -- a book has at most 1,024 steps
 pub most_all : (i m n : ℕ) → i ≤ 1024 → n ≤ i * m → n ≤ 1024 * m

@@ -26,8 +26,8 @@ pub fn sum_over<B: StepBook, M: Measure>(book: &B, measure: &M) -> u32
 {
     let (count, _) = book.count();
     let mut sum: u32 = 0;
-    for place in 0..count {
-        if let Ok(step) = book.read(place + 1) {
+    for number in 1..=count {
+        if let Ok(step) = book.read(number) {
             sum += measure.amount(step);
         }
     }

@@ -40,8 +40,8 @@ impl Measure for Won {
     ghost most = { 100 };
 
     fn amount(&self, step: Step) -> u32 {
-        let record = step.stored();
-        (record.standing - record.losing) as u32
+        let shares = step.stored().shares;
+        (shares.standing - shares.losing) as u32
     }
 }
 
@@ -51,7 +51,7 @@ impl Measure for Losing {
     ghost most = { 100 };
 
     fn amount(&self, step: Step) -> u32 {
-        step.stored().losing as u32
+        step.stored().shares.losing as u32
     }
 }
 
@@ -61,7 +61,7 @@ impl Measure for Standing {
     ghost most = { 100 };
 
     fn amount(&self, step: Step) -> u32 {
-        step.stored().standing as u32
+        step.stored().shares.standing as u32
     }
 }
 

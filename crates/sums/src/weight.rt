@@ -22,7 +22,7 @@ impl<'a, S: PhaseSheet> Measure for StandingWeight<'a, S> {
     fn amount(&self, step: Step) -> u32 {
         let record = step.stored();
         if record.bid.seat == self.seat {
-            record.standing as u32 * self.sheet.weight(record.bid.market) as u32
+            record.shares.standing as u32 * self.sheet.weight(record.bid.market) as u32
         } else {
             0
         }
