@@ -1,6 +1,6 @@
 -- Sums over the steps of a book, one step more, and their bounds.
 use Rattle.std.proofs.Common.{◌≡◌, ℕ, ◌+◌, ◌-◌, ◌*◌, ◌<◌, ◌≤◌, false, cond, eqb, List, length, get_or, take, sym, ap, ◌∙◌, mul-le-mul_right, add-mul, arith}
-use Rattle.std.proofs.lemmas.List.{take_all, take_more}
+use Rattle.std.proofs.lemmas.List.{take_more}
 use Rattle.std.proofs.lemmas.Bool.{cond-true, eq-eqb, and_from, le-leb, both_ways}
 use Rattle.steps.specs.declared.record.StepRecord.{StepRecord}
 use Rattle.steps.specs.Rule.{no_step}
