@@ -1,5 +1,5 @@
 -- The accounts that a table holds.
-use Rattle.std.specs.Prelude.{List, map, take}
+use Rattle.std.specs.Prelude.{List, map}
 use Rattle.rules.specs.declared.account.Account.{Account}
 use Rattle.accounts.specs.declared.account.SeatAccount.{SeatAccount}
 use Rattle.accounts.specs.declared.seats.Seats.{Seats}
@@ -10,4 +10,4 @@ plain_of row = row.account
 
 -- the accounts of the seats that there are, in order
 abbrev pub seated : Seats → List Account
-seated s = map plain_of (take s.count s.rows)
+seated s = map plain_of s.rows.items

@@ -25,3 +25,12 @@ impl SeatAccount {
         self.account.eligible = self.account.eligible.saturating_sub(by);
     }
 }
+
+/// What stands in a table where there is no seat yet.
+impl Default for SeatAccount {
+    ghost is_default = { λ a. a.account ≡ opened_with 0 };
+
+    fn default() -> SeatAccount {
+        SeatAccount::opened(0)
+    }
+}

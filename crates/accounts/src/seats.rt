@@ -1,16 +1,12 @@
 //! The table of a sale's accounts.
-ghost use Rattle.std.specs.Prelude.{◌≡◌, ◌≤◌, length};
-
 use crate::account::SeatAccount;
+use arrayvec::ArrayVec;
 
 /// The most seats that a sale can have.
 pub const MOST_SEATS: usize = 24;
 
-/// The accounts of up to 24 seats, that of seat k at place k - 1. What the rows past the count hold does not matter.
-#[derive(Clone, Copy)]
+/// The accounts of up to 24 seats, that of seat k at place k - 1. They lie in the value itself, so that no call wants memory.
+#[derive(Drop)]
 pub struct Seats {
-    pub(crate) count: usize,
-    pub(crate) rows: [SeatAccount; MOST_SEATS],
-    ghost few: { count ≤ 24 },
-    ghost full: { length rows ≡ 24 },
+    pub(crate) rows: ArrayVec<SeatAccount, MOST_SEATS>,
 }

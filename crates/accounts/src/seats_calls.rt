@@ -1,11 +1,12 @@
 //! The calls of the table of accounts.
-ghost use Rattle.std.specs.Prelude.{◌≡◌, ◌-◌, ◌<◌, ◌≤◌, true, false, [], ◌∷◌, ◌++◌, map, length, get_or, take, MatchOption, nat_lt, slice_index_or, slice_set};
+ghost use Rattle.std.specs.Prelude.{◌≡◌, ◌-◌, ◌≤◌, true, false, [], map, length, get_or, take, MatchOption, nat_lt, slice_index_or};
 ghost use Rattle.rules.specs.Sales.{nobody, dollars, outside};
-ghost use Rattle.accounts.specs.Accounts.{with_opened, with_cut, cut_by};
-ghost use Rattle.accounts.specs.Seated.{seated, plain_of};
+ghost use Rattle.accounts.specs.Accounts.{with_opened, with_cut};
+ghost use Rattle.accounts.specs.Seated.{seated};
 
 use crate::account::SeatAccount;
 use crate::seats::{MOST_SEATS, Seats};
+use arrayvec::ArrayVec;
 use rules::Account;
 
 impl Seats {
@@ -14,8 +15,7 @@ impl Seats {
         ensures { seated result ≡ [] }
     {
         Seats {
-            count: 0,
-            rows: [SeatAccount::opened(0); MOST_SEATS],
+            rows: ArrayVec::new(),
         }
     }
 
@@ -25,8 +25,8 @@ impl Seats {
         ensures { seated result ≡ map dollars (take 24 deposits.now) }
     {
         let mut seats = Seats::none();
-        for place in 0..deposits.len().min(MOST_SEATS) {
-            seats.open_account(deposits[place] / 500);
+        for dollars in &deposits[..deposits.len().min(MOST_SEATS)] {
+            seats.open_account(*dollars / 500);
         }
         seats
     }
@@ -36,17 +36,16 @@ impl Seats {
         ensures count { result ≡ length (seated self.now) }
         ensures most { result ≤ 24 }
     {
-        self.len()
+        self.rows.len()
     }
 
     /// The account of the seat, or none where there is no such seat.
     pub fn account(&self, seat: u8) -> Option<Account>
         ensures { MatchOption result (outside seat (length (seated self.now)) ≡ true) (λ a. (outside seat (length (seated self.now)) ≡ false) × (a ≡ slice_index_or (seated self.now) (seat - 1) nobody)) }
     {
-        match self.place_of(seat) {
-            Some(place) => Some(self.account_at(place)),
-            None => None,
-        }
+        let place = usize::from(seat).checked_sub(1)?;
+        let row = self.rows.as_slice().get(place)?;
+        Some(row.account)
     }
 
     /// What the seat is eligible for now, and 0 where there is no such seat.
@@ -54,10 +53,7 @@ impl Seats {
         ensures seat { 1 ≤ seat → result ≡ (get_or (seated self.now) (seat - 1) nobody).eligible }
         ensures none { seat ≡ 0 → result ≡ 0 }
     {
-        match self.account(seat) {
-            Some(account) => account.eligible,
-            None => 0,
-        }
+        self.account(seat).map_or(0, |account| account.eligible)
     }
 
     /// Adds a seat that has bought so much eligibility, and tells whether there was room for it.
@@ -65,71 +61,18 @@ impl Seats {
         ensures room { result ≡ nat_lt (length (seated self.old)) 24 }
         ensures after { seated self.new ≡ with_opened bought (seated self.old) }
     {
-        if self.len() >= MOST_SEATS {
-            return false;
-        }
-        self.append(SeatAccount::opened(bought));
-        true
+        self.rows.try_push(SeatAccount::opened(bought)).is_ok()
     }
 
     /// Cuts the eligibility of the seat, to nothing at most. Nothing changes where there is no such seat.
     pub fn cut(&mut self, seat: u8, by: u32)
         ensures { seated self.new ≡ with_cut seat by (seated self.old) }
     {
-        if let Some(place) = self.place_of(seat) {
-            self.cut_at(place, by);
+        let Some(place) = usize::from(seat).checked_sub(1) else {
+            return;
+        };
+        if let Some(row) = self.rows.get_mut(place) {
+            row.cut(by);
         }
     }
-
-    // How many rows are in use.
-    fn len(&self) -> usize
-        ensures seats { result ≡ length (seated self.now) }
-        ensures rows { result ≡ self.now.count }
-    {
-        self.count
-    }
-
-    // The place of the seat's row, or none where there is no such seat.
-    fn place_of(&self, seat: u8) -> Option<usize>
-        ensures { MatchOption result (outside seat (length (seated self.now)) ≡ true) (λ place. (outside seat (length (seated self.now)) ≡ false) × (place ≡ seat - 1) × (place < self.now.count)) }
-    {
-        if 1 <= seat && seat as usize <= self.len() {
-            Some(seat as usize - 1)
-        } else {
-            None
-        }
-    }
-
-    // The account of the row at the place.
-    fn account_at(&self, place: usize) -> Account
-        requires { place < self.now.count }
-        ensures { result ≡ slice_index_or (seated self.now) place nobody }
-    {
-        self.rows[place].account
-    }
-
-    // Writes a row behind those in use.
-    fn append(&mut self, row: SeatAccount)
-        requires { self.old.count < 24 }
-        ensures { seated self.new ≡ seated self.old ++ row.account ∷ [] }
-    {
-        self.rows[self.count] = row;
-        self.count += 1;
-    }
-
-    // Cuts the account of the row at the place.
-    fn cut_at(&mut self, place: usize, by: u32)
-        requires { place < self.old.count }
-        ensures { seated self.new ≡ slice_set (seated self.old) place (cut_by by (slice_index_or (seated self.old) place nobody)) }
-    {
-        cut_row(&mut self.rows, place, by);
-    }
-}
-
-// Cuts the account of one row, which is lent to do so.
-fn cut_row(rows: &mut [SeatAccount], place: usize, by: u32)
-    requires { place < length rows.old }
-    ensures { map plain_of rows.new ≡ slice_set (map plain_of rows.old) place (cut_by by (slice_index_or (map plain_of rows.old) place nobody)) }
-{
-    rows[place].cut(by);
 }
