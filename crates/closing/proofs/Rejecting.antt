@@ -35,7 +35,7 @@ module _ (xs : List StepRecord) (sound : SoundBelow xs (length xs)) where
 
   module _ (ys : List StepRecord) (k : ℕ) (r : ys ≡ rejected_to k xs) where
     -- the next step is held
-    pub rejected_held : k < length xs → held ys (k + 1) ≡ true
+    rejected_held : k < length xs → held ys (k + 1) ≡ true
     rejected_held l = let e = ap length r ∙ length-map xs (rejects_to k) in held_true ys (k + 1) (omega arith) (omega arith)
 
     module _ (within : k < length xs) where
@@ -57,7 +57,7 @@ module _ (xs : List StepRecord) (sound : SoundBelow xs (length xs)) where
           ∙ ap (λ t. cond t (rejects x) x) not_yet
 
       -- one step more
-      pub rejected_more : (zs : List StepRecord) → zs ≡ set ys (k + 1 - 1) (rejects (at ys (k + 1))) → zs ≡ rejected_to (k + 1) xs
+      rejected_more : (zs : List StepRecord) → zs ≡ set ys (k + 1 - 1) (rejects (at ys (k + 1))) → zs ≡ rejected_to (k + 1) xs
       rejected_more zs made =
           made
           ∙ ap (λ i. set ys i (rejects (at ys (k + 1)))) (omega arith)
@@ -72,3 +72,15 @@ module _ (xs : List StepRecord) (sound : SoundBelow xs (length xs)) where
 
       pub rejected_steps : ys ≡ map rejects xs
       rejected_steps = r ∙ map_same _ _ xs (λ x i. ap (λ t. cond t (rejects x) x) (all_done x i))
+
+  -- the same, told by the number of the step
+  module _ (ys : List StepRecord) (number : ℕ) (one : 1 ≤ number) (r : ys ≡ rejected_to (number - 1) xs) (within : number ≤ length xs) where
+    here : number - 1 + 1 ≡ number
+    here = omega arith
+
+    pub next_held : held ys number ≡ true
+    next_held = ap (held ys) (sym here) ∙ rejected_held ys (number - 1) r (omega arith)
+
+    pub next_rejected : (zs : List StepRecord) → zs ≡ set ys (number - 1) (rejects (at ys number)) → zs ≡ rejected_to number xs
+    next_rejected zs made =
+        rejected_more ys (number - 1) r (omega arith) zs (made ∙ ap (λ n. set ys (n - 1) (rejects (at ys n))) (sym here)) ∙ ap (λ n. rejected_to n xs) here

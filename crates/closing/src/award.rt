@@ -7,6 +7,7 @@ ghost use Rattle.closing.specs.HandOut.{handed, gets, awarded, cleared};
 
 use crate::held::{next_of, reshare, step_of};
 use books::StepBook;
+use steps::Shares;
 
 /// Hands the lots out down the rank of each of the seven markets, and answers their clearing discounts.
 pub fn hand_out<B: StepBook>(book: &mut B, lots: u8) -> [Option<u16>; 7]
@@ -17,8 +18,8 @@ pub fn hand_out<B: StepBook>(book: &mut B, lots: u8) -> [Option<u16>; 7]
     ensures clearing { result ≡ listed (λ m. least m (settled lots (B.StepBook.steps book.old))) 1 7 }
 {
     let mut clearing = [None; 7];
-    for place in 0..clearing.len() {
-        clearing[place] = hand_out_market(book, market_at(place), lots);
+    for (place, least) in clearing.iter_mut().enumerate() {
+        *least = hand_out_market(book, market_at(place), lots);
     }
     clearing
 }
@@ -72,9 +73,16 @@ fn award_step<B: StepBook>(book: &mut B, number: u16, walk: Walk) -> Walk
     ensures clearing { result.clearing ≡ cleared walk.left (at (B.StepBook.steps book.old) number) walk.clearing }
 {
     let step = step_of(book, number);
-    let got = step.standing.min(walk.left);
-    let losing = step.standing - got;
-    reshare(book, number, step.standing, losing, step.rejected);
+    let got = step.shares.standing.min(walk.left);
+    let losing = step.shares.standing - got;
+    reshare(
+        book,
+        number,
+        Shares {
+            losing,
+            ..step.shares
+        },
+    );
     let clearing = if got > 0 {
         Some(step.bid.discount)
     } else {

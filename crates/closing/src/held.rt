@@ -4,7 +4,7 @@ ghost use Rattle.steps.specs.Rule.{shares_ok, step_ok};
 ghost use Rattle.books.specs.Replies.{at, held, reshared, NextReply};
 
 use books::StepBook;
-use steps::StepRecord;
+use steps::{Shares, StepRecord};
 
 // The step of that number.
 pub(crate) fn step_of<B: StepBook>(book: &B, number: u16) -> StepRecord
@@ -19,21 +19,15 @@ pub(crate) fn step_of<B: StepBook>(book: &B, number: u16) -> StepRecord
 }
 
 // Replaces the share figures of the step of that number.
-pub(crate) fn reshare<B: StepBook>(
-    book: &mut B,
-    number: u16,
-    standing: u8,
-    losing: u8,
-    rejected: u8,
-)
+pub(crate) fn reshare<B: StepBook>(book: &mut B, number: u16, shares: Shares)
     requires number { held (B.StepBook.steps book.old) number ≡ true }
-    requires shares { shares_ok standing losing rejected ≡ true }
+    requires shares { shares_ok shares ≡ true }
     ensures size { B.StepBook.size book.new ≡ B.StepBook.size book.old }
     ensures lent { B.StepBook.lent book.new ≡ B.StepBook.lent book.old }
     ensures beyond { B.StepBook.beyond book.new ≡ B.StepBook.beyond book.old }
-    ensures steps { B.StepBook.steps book.new ≡ slice_set (B.StepBook.steps book.old) (number - 1) (reshared (at (B.StepBook.steps book.old) number) standing losing rejected) }
+    ensures steps { B.StepBook.steps book.new ≡ slice_set (B.StepBook.steps book.old) (number - 1) (reshared (at (B.StepBook.steps book.old) number) shares) }
 {
-    match book.set(number, standing, losing, rejected) {
+    match book.set(number, shares) {
         Ok(()) => (),
         Err(_) => unreachable(),
     }

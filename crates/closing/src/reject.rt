@@ -5,6 +5,7 @@ ghost use Rattle.rules.specs.Books.{rejects};
 
 use crate::held::{reshare, step_of};
 use books::StepBook;
+use steps::Shares;
 
 /// Rejects every losing share.
 pub fn reject_losing<B: StepBook>(book: &mut B)
@@ -14,8 +15,8 @@ pub fn reject_losing<B: StepBook>(book: &mut B)
     ensures steps { B.StepBook.steps book.new ≡ map rejects (B.StepBook.steps book.old) }
 {
     let (count, _) = book.count();
-    for place in 0..count {
-        reject_step(book, place + 1);
+    for number in 1..=count {
+        reject_step(book, number);
     }
 }
 
@@ -27,8 +28,13 @@ fn reject_step<B: StepBook>(book: &mut B, number: u16)
     ensures beyond { B.StepBook.beyond book.new ≡ B.StepBook.beyond book.old }
     ensures steps { B.StepBook.steps book.new ≡ slice_set (B.StepBook.steps book.old) (number - 1) (rejects (at (B.StepBook.steps book.old) number)) }
 {
-    let step = step_of(book, number);
-    let standing = step.standing - step.losing;
-    let rejected = step.rejected + step.losing;
-    reshare(book, number, standing, 0, rejected);
+    let shares = step_of(book, number).shares;
+    let standing = shares.standing - shares.losing;
+    let rejected = shares.rejected + shares.losing;
+    let left = Shares {
+        standing,
+        losing: 0,
+        rejected,
+    };
+    reshare(book, number, left);
 }

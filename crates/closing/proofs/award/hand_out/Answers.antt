@@ -29,5 +29,5 @@ returns g c =
       lent = inv.1;
       beyond = inv.2;
       steps = upto_all c.args.lots xs (g.B.StepBook.lawful c.args.book.now).sound c.loop-place.place (g.B.StepBook.steps c.loop-place.book) (omega arith) inv.3;
-      clearing = filled_all (λ m. least m (settled c.args.lots xs)) None c.loop-place.place 7 c.loop-place.clearing inv.4 (omega arith) inv.5;
+      clearing = filled_all (λ m. least m (settled c.args.lots xs)) None c.loop-place.place 7 c.loop-place.least-items inv.4 (omega arith) inv.5;
     }

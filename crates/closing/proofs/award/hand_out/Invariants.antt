@@ -11,5 +11,5 @@ invariant-loop-place g l =
     × (b.lent l.book ≡ b.lent l.initial.book)
     × (b.beyond l.book ≡ b.beyond l.initial.book)
     × (b.steps l.book ≡ upto l.place l.lots xs)
-    × (length l.clearing ≡ 7)
-    × Filled (λ m. least m (settled l.lots xs)) None l.place l.clearing
+    × (length l.least-items ≡ 7)
+    × Filled (λ m. least m (settled l.lots xs)) None l.place l.least-items
