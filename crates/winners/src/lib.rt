@@ -1,7 +1,6 @@
 //! The winning steps of a market, in rank, over any book.
 #![tactic(auto)]
 
-mod held;
 mod winning;
 
 pub use winning::winners;

@@ -2,7 +2,6 @@
 ghost use Rattle.std.specs.Prelude.{◌≡◌, ◌+◌, ◌<◌, ◌≤◌, [], ◌∷◌, ◌++◌, length, IfOk, vec_len, vec_capacity, filter};
 ghost use Rattle.winners.specs.Winning.{is_winning, winning};
 
-use crate::held::{next_of, step_of};
 use books::StepBook;
 use std::alloc::{AllocError, Global};
 use steps::StepRecord;
@@ -21,16 +20,18 @@ pub fn winners<B: StepBook>(
     Ok(found)
 }
 
-// Walks the market's rank from the top, and adds each winning step to those found. There is room for every step of the
-// book, so that no push wants memory.
+// Walks the market's rank from the top, and adds each winning step to those found. The book refuses none of the numbers
+// that it answers. There is room for every step of the book, so that no push wants memory.
 fn gather<B: StepBook>(book: &B, market: u8, found: &mut Vec<StepRecord>)
     requires { vec_len found.old + length (B.StepBook.steps book.now) ≤ vec_capacity found.old }
     ensures { found.new.items ≡ found.old.items ++ winning market (B.StepBook.steps book.now) }
 {
     // the top ranks behind number 0
     let mut at: u16 = 0;
-    while let Some(number) = next_of(book, market, at) {
-        add_if_winning(found, step_of(book, number));
+    while let Ok(Some(number)) = book.next(market, at) {
+        if let Ok(step) = book.read(number) {
+            add_if_winning(found, step.stored());
+        }
         at = number;
     }
 }
@@ -51,5 +52,5 @@ fn add_if_winning(found: &mut Vec<StepRecord>, step: StepRecord)
 fn wins(step: StepRecord) -> bool
     ensures { result ≡ is_winning step }
 {
-    step.standing > step.losing
+    step.shares.standing > step.shares.losing
 }
