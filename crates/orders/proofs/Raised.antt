@@ -2,13 +2,14 @@
 use Rattle.std.proofs.Common.{◌≡◌, ℕ, suc, ◌+◌, ◌-◌, ◌<◌, ◌≤◌, true, leb, List, [], ◌∷◌, ◌++◌, length, set, Ok, sym, ap, ◌∙◌, arith}
 use Rattle.std.proofs.lemmas.List.{length_push, get_or_append_left, set-append_left}
 use Rattle.std.proofs.lemmas.Bool.{and_parts, leb-true}
+use Rattle.offers.specs.declared.Raise.{Raise}
 use Rattle.steps.specs.declared.record.StepRecord.{StepRecord}
 use Rattle.steps.specs.Rule.{no_step}
 use Rattle.books.specs.Replies.{held, at, entered, put_reply, put_after}
 use Rattle.books.proofs.After.{put_accepted, held_true}
 use Rattle.rules.specs.declared.answer.Answer.TheVariants.{Told}
-use Rattle.rules.specs.Sales.{State, step_at, less, raise}
-use Rattle.sale_parts.specs.State.{Obeys, PassesButFull}
+use Rattle.rules.specs.Sales.{State, step_at, less}
+use Rattle.sale_parts.specs.State.{Obeys, PassesButFull, raising}
 use Rattle.orders.proofs.Obeyed.{obeys_put}
 
 within : (xs : List StepRecord) (number : ℕ) → held xs number ≡ true → (1 ≤ number) × (number ≤ length xs)
@@ -40,10 +41,10 @@ module _ (size : ℕ) (xs ys : List StepRecord) (number n : ℕ) (x new : StepRe
       ∙ ap (λ v. set xs (number - 1) (less shares v) ++ new ∷ []) is
 
 -- the sale after the shares were moved is what the rules leave
-pub raise_obeyed : (s : State) (seat number shares discount stamp n size : ℕ) (x : StepRecord) (zs : List StepRecord) →
-    PassesButFull s (raise seat number shares discount stamp) → (length s.steps ≡ s.size → ⊥) → n ≡ length s.steps + 1 → x ≡ step_at s number → x.bid.seat ≡ seat →
-    zs ≡ set s.steps (number - 1) (less shares (step_at s number)) ++ entered s.steps seat x.bid.market discount stamp shares ∷ [] → size ≡ s.size →
-    Obeys s (raise seat number shares discount stamp) (Ok (Told n)) (record {
+pub raise_obeyed : (s : State) (asked : Raise) (n size : ℕ) (x : StepRecord) (zs : List StepRecord) →
+    PassesButFull s (raising asked) → (length s.steps ≡ s.size → ⊥) → n ≡ length s.steps + 1 → x ≡ step_at s asked.step → x.bid.seat ≡ asked.seat →
+    zs ≡ set s.steps (asked.step - 1) (less asked.shares (step_at s asked.step)) ++ entered s.steps (record { seat = asked.seat; market = x.bid.market; shares = asked.shares; discount = asked.discount; stamp = asked.stamp }) ∷ [] → size ≡ s.size →
+    Obeys s (raising asked) (Ok (Told n)) (record {
       figures = s.figures;
       size = size;
       steps = zs;
@@ -54,10 +55,10 @@ pub raise_obeyed : (s : State) (seat number shares discount stamp n size : ℕ) 
       increments = s.increments;
       clearing = s.clearing;
       raised = true;
-      last_stamp = stamp;
+      last_stamp = asked.stamp;
       accounts = s.accounts;
     })
-raise_obeyed s seat number shares discount stamp n size x zs passes room answers is own steps same =
+raise_obeyed s asked n size x zs passes room answers is own steps same =
     let next : n ≡ suc (length s.steps) = omega arith in
     let number-next : length s.steps + 1 ≡ suc (length s.steps) = omega arith in
-    obeys_put s (raise seat number shares discount stamp) _ _ passes room (ap (λ k. Ok (Told k)) next) (cc)
+    obeys_put s (raising asked) _ _ passes room (ap (λ k. Ok (Told k)) next) (cc)

@@ -6,9 +6,11 @@ use Rattle.accounts.specs.Seated.{seated}
 use Rattle.rules.specs.declared.answer.Answer.{Answer}
 use Rattle.rules.specs.declared.fault.SaleFault.{SaleFault}
 use Rattle.rules.specs.declared.fault.SaleFault.TheVariants.{Book}
-use Rattle.steps.specs.Rule.{offer_ok, shares_ok}
+use Rattle.offers.specs.declared.NewStep.{NewStep}
+use Rattle.offers.specs.declared.Raise.{Raise}
+use Rattle.steps.specs.Rule.{offer_ok, shares_ok, all_standing}
 use Rattle.steps.specs.declared.fault.BookFault.TheVariants.{Full}
-use Rattle.rules.specs.Sales.{State, Verdict, passed, failed, unless, Call, verdict, reply, after}
+use Rattle.rules.specs.Sales.{State, Verdict, passed, failed, unless, Call, enter, raise, verdict, reply, after}
 use Rattle.rules.specs.Parts.{book_full}
 use Rattle.sale_parts.specs.declared.parts.SaleParts.{SaleParts}
 
@@ -54,4 +56,11 @@ TestedButFull s c (Err f) = verdict s c ≡ failed f
 
 -- a book takes a step of this market and discount with so many shares, if it has room
 abbrev pub offered : ℕ → ℕ → ℕ → Bool
-offered market discount shares = offer_ok market discount && shares_ok shares 0 0
+offered market discount shares = offer_ok market discount && shares_ok (all_standing shares)
+
+-- the calls of a seat, by what it asks for
+abbrev pub entering : NewStep → Call
+entering step = enter step.seat step.market step.shares step.discount step.stamp
+
+abbrev pub raising : Raise → Call
+raising asked = raise asked.seat asked.step asked.shares asked.discount asked.stamp

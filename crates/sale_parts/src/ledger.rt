@@ -2,7 +2,7 @@
 use accounts::Seats;
 
 /// The figures of a sale. Increments and clearing discounts have seven places, that of market m at m - 1.
-#[derive(Clone, Copy)]
+#[derive(Drop)]
 pub struct Ledger {
     pub lots: u8,
     pub round: u64,

@@ -15,7 +15,7 @@ use sheets::PhaseSheet;
 pub fn outside(n: usize, top: usize) -> bool
     ensures { result ≡ is_outside n top }
 {
-    n == 0 || n > top
+    !(1..=top).contains(&n)
 }
 
 impl<S: PhaseSheet + Drop, B: StepBook + Drop> SaleParts<S, B> {
