@@ -1,5 +1,5 @@
 -- Accounts that are cut one after the other.
-use Rattle.std.proofs.Common.{◌≡◌, ℕ, zero, suc, ◌+◌, ◌-◌, ◌<◌, ◌≤◌, false, List, [], ◌∷◌, length, get_or, set, refl, ap, ◌∙◌, arith}
+use Rattle.std.proofs.Common.{◌≡◌, ℕ, zero, suc, ◌+◌, ◌-◌, ◌<◌, ◌≤◌, false, List, [], ◌∷◌, length, get_or, set, refl, sym, ap, ◌∙◌, arith}
 use Rattle.std.proofs.lemmas.Bool.{cond-false}
 use Rattle.std.proofs.lemmas.Bool.Decides.{nat_tests}
 use Rattle.sheets.specs.Figures.{Figures}
@@ -43,7 +43,7 @@ is_seat : (i n : ℕ) → i < n → outside (i + 1) n ≡ false
 is_seat i n h = grind (arith, nat_tests)
 
 -- the account of seat i + 1 is cut by what it owes and hasn't standing
-pub cut_more : (figures : Figures) (round : ℕ) (steps : List StepRecord) (old now after : List Account) (i by : ℕ) → i < length old →
+cut_more : (figures : Figures) (round : ℕ) (steps : List StepRecord) (old now after : List Account) (i by : ℕ) → i < length old →
     now ≡ first_with (closed_account figures round steps) 1 i old →
     by ≡ owed figures round (get_or now (i + 1 - 1) nobody).eligible - weighted figures.weight (i + 1) standing_of steps → after ≡ with_cut (i + 1) by now →
     after ≡ first_with (closed_account figures round steps) 1 (i + 1) old
@@ -60,3 +60,15 @@ cut_more figures round steps old now after i by h is lacks cut =
     let made : with_cut (i + 1) by now ≡ set now (i + 1 - 1) (cut_by by (get_or now (i + 1 - 1) nobody)) = cond-false _ _ _ (is_seat i (length now) (omega arith)) in
     cut ∙ made ∙ ap (λ x. set now (i + 1 - 1) x) new ∙ ap (λ n. set now n (f (i + 1) a)) place ∙ ap (λ xs. set xs i (f (i + 1) a)) is
     ∙ one_more f 1 i (i + 1) old nobody h (omega arith) ∙ ap (λ n. first_with f 1 n old) next
+
+-- the same, told by the number of the seat
+pub cut_next : (figures : Figures) (round : ℕ) (steps : List StepRecord) (old now after : List Account) (seat by : ℕ) → 1 ≤ seat → seat ≤ length old →
+    now ≡ first_with (closed_account figures round steps) 1 (seat - 1) old →
+    by ≡ owed figures round (get_or now (seat - 1) nobody).eligible - weighted figures.weight seat standing_of steps → after ≡ with_cut seat by now →
+    after ≡ first_with (closed_account figures round steps) 1 seat old
+cut_next figures round steps old now after seat by one most is lacks cut =
+    let here : seat - 1 + 1 ≡ seat = omega arith in
+    cut_more figures round steps old now after (seat - 1) by (omega arith) is
+    (lacks ∙ ap (λ n. owed figures round (get_or now (n - 1) nobody).eligible - weighted figures.weight n standing_of steps) (sym here))
+    (cut ∙ ap (λ n. with_cut n by now) (sym here))
+    ∙ ap (λ n. first_with (closed_account figures round steps) 1 n old) here

@@ -66,8 +66,7 @@ fn owed<S: PhaseSheet>(sheet: &S, round: u64, eligible: u32) -> u32
 fn cut_seats<S: PhaseSheet, B: StepBook>(sheet: &S, book: &B, round: u64, seats: &mut Seats)
     ensures { seated seats.new ≡ each_with (closed_account (S.PhaseSheet.figures sheet.now) round (B.StepBook.steps book.now)) 1 (seated seats.old) }
 {
-    for place in 0..seats.count() {
-        let seat = place as u8 + 1;
+    for seat in 1..=seats.count() as u8 {
         let by = lacking(sheet, book, round, seat, seats);
         seats.cut(seat, by);
     }

@@ -70,8 +70,8 @@ fn padded(row: &[u16]) -> [u16; 7]
     ensures { result ≡ padded_row row.now }
 {
     let mut increments = [0; 7];
-    for place in 0..row.len() {
-        increments[place] = increment_of(row[place]);
+    for (place, given) in row.iter().enumerate() {
+        increments[place] = increment_of(*given);
     }
     increments
 }

@@ -25,7 +25,7 @@ carried_at first k (a ∷ rest) zero n e l = ap (λ m. opened_with (left_to firs
 carried_at first k (a ∷ rest) (suc j) n e l = carried_at first (suc k) rest j n (omega arith) (omega arith)
 
 -- one account more is opened, with what is left to its seat
-pub carried_more : (s : State) (seats : List Account) (i v : ℕ) → i < length s.accounts → i < 24 → v ≡ left_to s (i + 1) (account s (i + 1 - 1)) → seats ≡ take i (carried s 1 s.accounts) →
+carried_more : (s : State) (seats : List Account) (i v : ℕ) → i < length s.accounts → i < 24 → v ≡ left_to s (i + 1) (account s (i + 1 - 1)) → seats ≡ take i (carried s 1 s.accounts) →
     (after : List Account) → after ≡ with_opened v seats → after ≡ take (i + 1) (carried s 1 s.accounts)
 carried_more s seats i v within room e is after opened =
     let all = carried s 1 s.accounts in
@@ -35,3 +35,10 @@ carried_more s seats i v within room e is after opened =
     let here : opened_with v ≡ get_or all i nobody =
     ap opened_with (e ∙ ap (λ k. left_to s (i + 1) (account s k)) (omega arith)) ∙ sym (carried_at s 1 s.accounts i (i + 1) (omega arith) within) in
     opened ∙ fits ∙ ap (λ xs. xs ++ opened_with v ∷ []) is ∙ ap (λ a. take i all ++ a ∷ []) here ∙ sym (take_more all i nobody (omega arith))
+
+-- the same, told by the number of the seat
+pub carried_next : (s : State) (seats : List Account) (seat v : ℕ) → 1 ≤ seat → seat ≤ length s.accounts → seat ≤ 24 → v ≡ left_to s seat (account s (seat - 1)) → seats ≡ take (seat - 1) (carried s 1 s.accounts) →
+    (after : List Account) → after ≡ with_opened v seats → after ≡ take seat (carried s 1 s.accounts)
+carried_next s seats seat v one most few e is after opened =
+    let here : seat - 1 + 1 ≡ seat = omega arith in
+    carried_more s seats (seat - 1) v (omega arith) (omega arith) (e ∙ ap (λ n. left_to s n (account s (n - 1))) (sym here)) is after opened ∙ ap (λ n. take n (carried s 1 s.accounts)) here

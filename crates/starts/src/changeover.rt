@@ -74,8 +74,8 @@ fn seats_left<S: PhaseSheet + Drop, B: StepBook + Drop>(sale: &SaleParts<S, B>) 
     ensures { seated result ≡ carried (state_of S.PhaseSheet B.StepBook sale.now) 1 (seated sale.now.ledger.seats) }
 {
     let mut seats = Seats::none();
-    for place in 0..sale.ledger.seats.count() {
-        seats.open_account(bought_left(sale, place as u8 + 1));
+    for seat in 1..=sale.ledger.seats.count() as u8 {
+        seats.open_account(bought_left(sale, seat));
     }
     seats
 }
