@@ -2,7 +2,8 @@
 use Rattle.std.specs.Prelude.{List, [], map, Ok, Err, Result}
 use Rattle.sheets.specs.declared.sheet.PhaseSheet.{Ghosts as SheetGhosts}
 use Rattle.books.specs.declared.book.StepBook.{Ghosts as BookGhosts}
-use Rattle.rules.specs.Sales.{Call, start, changeover, opening, enter, raise, close}
+use Rattle.rules.specs.Sales.{Call, start, changeover, opening, close}
+use Rattle.sale_parts.specs.State.{entering, raising}
 use Rattle.runs.specs.declared.call.Call.{Call as CodeCall}
 use Rattle.runs.specs.declared.call.Call.TheVariants.{Start, Changeover, Open, Enter, Raise, Close}
 use Rattle.sales.specs.State.{state_of}
@@ -11,8 +12,8 @@ abbrev pub call_of : {S B : Type 0} → SheetGhosts S → BookGhosts B → CodeC
 call_of sheet book (Start deposits) = start deposits.now
 call_of sheet book (Changeover first) = changeover (state_of sheet book first.now)
 call_of sheet book (Open row) = opening row.now
-call_of sheet book (Enter seat market shares discount stamp) = enter seat market shares discount stamp
-call_of sheet book (Raise seat number shares discount stamp) = raise seat number shares discount stamp
+call_of sheet book (Enter step) = entering step
+call_of sheet book (Raise asked) = raising asked
 call_of sheet book Close = close
 
 -- a list of calls

@@ -1,6 +1,6 @@
 //! Calls one after the other, and what is proved of every run of them.
-ghost use Rattle.std.specs.Prelude.{◌≡◌, ◌≤◌, List, [], length, IfOk, vec_capacity};
-ghost use Rattle.rules.specs.Sales.{State, Call as RulesCall, run};
+ghost use Rattle.std.specs.Prelude.{◌≡◌, ◌≤◌, [], length, IfOk, vec_capacity};
+ghost use Rattle.rules.specs.Sales.{run};
 ghost use Rattle.rules.specs.Parts.{replies};
 ghost use Rattle.rules.specs.Fair.{StaysFair};
 ghost use Rattle.sales.specs.State.{state_of, Does, GoesOnFairly};
@@ -20,40 +20,12 @@ pub fn perform<S: PhaseSheet + Drop, B: StepBook + Drop, T: PhaseSheet + Drop, C
     ensures obeys { Does S.PhaseSheet B.StepBook sale.old (call_of T.PhaseSheet C.StepBook call.now) result sale.new }
     ensures fair { GoesOnFairly S.PhaseSheet B.StepBook sale.old (call_of T.PhaseSheet C.StepBook call.now) sale.new }
 {
-    runs_on_fairly(sale);
-    make(sale, call)
-}
-
-// The theorem over every run, at this sale: whatever calls led here, any calls more that follow the rules make a fair run.
-fn runs_on_fairly<S: PhaseSheet + Drop, B: StepBook + Drop>(sale: &Sale<S, B>)
-    ensures { (cs : List RulesCall) (s' : State) → s' ≡ run (state_of S.PhaseSheet B.StepBook sale.now) cs → StaysFair (state_of S.PhaseSheet B.StepBook sale.now) cs s' }
-{}
-
-// The call that the value says.
-fn make<S: PhaseSheet + Drop, B: StepBook + Drop, T: PhaseSheet + Drop, C: StepBook + Drop>(
-    sale: &mut Sale<S, B>,
-    call: &Call<'_, T, C>,
-) -> Reply
-    ensures { Does S.PhaseSheet B.StepBook sale.old (call_of T.PhaseSheet C.StepBook call.now) result sale.new }
-{
     match call {
         Call::Start(deposits) => sale.start(deposits),
         Call::Changeover(first) => sale.changeover(first),
         Call::Open(row) => sale.open(row),
-        Call::Enter {
-            seat,
-            market,
-            shares,
-            discount,
-            stamp,
-        } => sale.enter(*seat, *market, *shares, *discount, *stamp),
-        Call::Raise {
-            seat,
-            number,
-            shares,
-            discount,
-            stamp,
-        } => sale.raise(*seat, *number, *shares, *discount, *stamp),
+        Call::Enter(step) => sale.enter(*step),
+        Call::Raise(raise) => sale.raise(*raise),
         Call::Close => sale.close(),
     }
 }
@@ -70,7 +42,6 @@ pub fn run_calls<
     ensures left { state_of S.PhaseSheet B.StepBook sale.new ≡ run (state_of S.PhaseSheet B.StepBook sale.old) (made_of result (calls_of T.PhaseSheet C.StepBook calls.now)) }
     ensures fair { StaysFair (state_of S.PhaseSheet B.StepBook sale.old) (made_of result (calls_of T.PhaseSheet C.StepBook calls.now)) (state_of S.PhaseSheet B.StepBook sale.new) }
 {
-    runs_on_fairly(sale);
     let mut told = Vec::with_capacity(heap, calls.len())?;
     run_into(sale, calls, &mut told);
     Ok(told)

@@ -1,11 +1,13 @@
 //! The calls of a sale.
 ghost use Rattle.std.specs.Prelude.{◌≡◌, List};
-ghost use Rattle.rules.specs.Sales.{State, fresh, Call, start, changeover, opening, enter, raise, close, run};
+ghost use Rattle.rules.specs.Sales.{State, fresh, Call, start, changeover, opening, close, run};
+ghost use Rattle.sale_parts.specs.State.{entering, raising};
 ghost use Rattle.rules.specs.Fair.{StaysFair};
 ghost use Rattle.sales.specs.State.{state_of, Does, GoesOnFairly};
 
 use crate::sale::Sale;
 use books::StepBook;
+use offers::{NewStep, Raise};
 use rules::{Answer, SaleFault};
 use sale_parts::SaleParts;
 use sheets::PhaseSheet;
@@ -24,6 +26,7 @@ impl<S: PhaseSheet + Drop, B: StepBook + Drop> Sale<S, B> {
     }
 
     // The theorem over every run, at this sale: whatever calls led here, any calls more that follow the rules make a fair run.
+    // It does nothing: each call that begins with it knows the theorem, with no proof of its own.
     fn runs_on_fairly(&self)
         ensures { (cs : List Call) (s' : State) → s' ≡ run (state_of S.PhaseSheet B.StepBook self.now) cs → StaysFair (state_of S.PhaseSheet B.StepBook self.now) cs s' }
     {}
@@ -59,21 +62,21 @@ impl<S: PhaseSheet + Drop, B: StepBook + Drop> Sale<S, B> {
     }
 
     /// Enters a new step of the seat, and answers its number.
-    pub fn enter(&mut self, seat: u8, market: u8, shares: u8, discount: u16, stamp: u64) -> Reply
-        ensures obeys { Does S.PhaseSheet B.StepBook self.old (enter seat market shares discount stamp) result self.new }
-        ensures fair { GoesOnFairly S.PhaseSheet B.StepBook self.old (enter seat market shares discount stamp) self.new }
+    pub fn enter(&mut self, step: NewStep) -> Reply
+        ensures obeys { Does S.PhaseSheet B.StepBook self.old (entering step) result self.new }
+        ensures fair { GoesOnFairly S.PhaseSheet B.StepBook self.old (entering step) self.new }
     {
         self.runs_on_fairly();
-        orders::enter_step(&mut self.parts, seat, market, shares, discount, stamp)
+        orders::enter_step(&mut self.parts, step)
     }
 
     /// Moves shares of a step to a larger discount, which makes a new step, and answers its number.
-    pub fn raise(&mut self, seat: u8, number: u16, shares: u8, discount: u16, stamp: u64) -> Reply
-        ensures obeys { Does S.PhaseSheet B.StepBook self.old (raise seat number shares discount stamp) result self.new }
-        ensures fair { GoesOnFairly S.PhaseSheet B.StepBook self.old (raise seat number shares discount stamp) self.new }
+    pub fn raise(&mut self, raise: Raise) -> Reply
+        ensures obeys { Does S.PhaseSheet B.StepBook self.old (raising raise) result self.new }
+        ensures fair { GoesOnFairly S.PhaseSheet B.StepBook self.old (raising raise) self.new }
     {
         self.runs_on_fairly();
-        orders::raise_step(&mut self.parts, seat, number, shares, discount, stamp)
+        orders::raise_step(&mut self.parts, raise)
     }
 
     /// Closes the round, and answers how many shares were rejected and whether the sale ended.

@@ -92,10 +92,11 @@ impl<S: PhaseSheet + Drop, B: StepBook + Drop> Sale<S, B> {
     pub fn account(&self, seat: u8) -> Result<Account, SaleFault>
         ensures { OfSeat (state_of S.PhaseSheet B.StepBook self.now) seat (account (state_of S.PhaseSheet B.StepBook self.now) (seat - 1)) result }
     {
-        match self.parts.ledger.seats.account(seat) {
-            Some(account) => Ok(account),
-            None => Err(SaleFault::NoSeat),
-        }
+        self.parts
+            .ledger
+            .seats
+            .account(seat)
+            .ok_or(SaleFault::NoSeat)
     }
 
     /// The step of that number. It refuses 2.
