@@ -1,13 +1,13 @@
 //! Each refusal of a call, in the order of its tests, over any book of three places; and a third sheet.
 use crate::sheet::TwoMarkets;
-use books::{FlatBook, StepBook};
+use books::{FlatBook, StepBook, VecBook};
+use offers::{NewStep, Raise};
 use rules::{Account, Answer, SaleFault};
 use sales::Sale;
 use sheets::{FullTerm, PhaseSheet, SingleYear};
 use std::process::Abort;
 use std::test::Fail;
-use steps::{Bid, BookFault, StepRecord};
-use vec_book::VecBook;
+use steps::{Bid, BookFault, Shares, StepRecord};
 
 const UNUSED: StepRecord = StepRecord {
     bid: Bid {
@@ -17,10 +17,32 @@ const UNUSED: StepRecord = StepRecord {
         discount: 0,
         stamp: 0,
     },
-    standing: 0,
-    losing: 0,
-    rejected: 0,
+    shares: Shares {
+        standing: 0,
+        losing: 0,
+        rejected: 0,
+    },
 };
+
+fn offer(seat: u8, market: u8, shares: u8, discount: u16, stamp: u64) -> NewStep {
+    NewStep {
+        seat,
+        market,
+        shares,
+        discount,
+        stamp,
+    }
+}
+
+fn raise(seat: u8, step: u16, shares: u8, discount: u16, stamp: u64) -> Raise {
+    Raise {
+        seat,
+        step,
+        shares,
+        discount,
+        stamp,
+    }
+}
 
 fn starts<B: StepBook + Drop>(rt: &impl Abort, book: B) {
     let mut sale = Sale::new(SingleYear, book);
@@ -54,41 +76,59 @@ fn opens<B: StepBook + Drop>(rt: &impl Abort, book: B) {
 fn enters<B: StepBook + Drop>(rt: &impl Abort, book: B) {
     let mut sale = Sale::new(SingleYear, book);
     assert_eq!(rt; sale.start(&[20_000_000, 50_000]), Ok(Answer::Told(100)));
-    assert_eq!(rt; sale.enter(0, 0, 0, 10_001, 0), Err(SaleFault::RoundShut));
-    assert_eq!(rt; sale.open(&[0; 7]), Ok(Answer::Told(1)));
-    assert_eq!(rt; sale.enter(1, 7, 100, 10_000, 5), Ok(Answer::Told(1)));
-    assert_eq!(rt; sale.enter(3, 0, 0, 10_001, 4), Err(SaleFault::NoSeat));
-    assert_eq!(rt; sale.enter(2, 8, 0, 10_001, 4), Err(SaleFault::NoMarket));
     assert_eq!(rt;
-        sale.enter(2, 7, 101, 10_001, 4),
+        sale.enter(offer(0, 0, 0, 10_001, 0)),
+        Err(SaleFault::RoundShut)
+    );
+    assert_eq!(rt; sale.open(&[0; 7]), Ok(Answer::Told(1)));
+    assert_eq!(rt;
+        sale.enter(offer(1, 7, 100, 10_000, 5)),
+        Ok(Answer::Told(1))
+    );
+    assert_eq!(rt;
+        sale.enter(offer(3, 0, 0, 10_001, 4)),
+        Err(SaleFault::NoSeat)
+    );
+    assert_eq!(rt;
+        sale.enter(offer(2, 8, 0, 10_001, 4)),
+        Err(SaleFault::NoMarket)
+    );
+    assert_eq!(rt;
+        sale.enter(offer(2, 7, 101, 10_001, 4)),
         Err(SaleFault::ShareCount)
     );
     assert_eq!(rt;
-        sale.enter(2, 7, 100, 10_001, 4),
+        sale.enter(offer(2, 7, 100, 10_001, 4)),
         Err(SaleFault::DiscountSize)
     );
     assert_eq!(rt;
-        sale.enter(2, 7, 100, 10_000, 4),
+        sale.enter(offer(2, 7, 100, 10_000, 4)),
         Err(SaleFault::StampBehind)
     );
-    assert_eq!(rt; sale.enter(2, 1, 2, 0, 5), Err(SaleFault::NotEligible));
-    assert_eq!(rt; sale.enter(2, 1, 1, 0, 5), Ok(Answer::Told(2)));
+    assert_eq!(rt;
+        sale.enter(offer(2, 1, 2, 0, 5)),
+        Err(SaleFault::NotEligible)
+    );
+    assert_eq!(rt; sale.enter(offer(2, 1, 1, 0, 5)), Ok(Answer::Told(2)));
     fills(rt, &mut sale);
 }
 
 // The third place of the book is the last.
 fn fills<S: PhaseSheet + Drop, B: StepBook + Drop>(rt: &impl Abort, sale: &mut Sale<S, B>) {
-    assert_eq!(rt; sale.enter(1, 1, 1, 0, 5), Ok(Answer::Told(3)));
+    assert_eq!(rt; sale.enter(offer(1, 1, 1, 0, 5)), Ok(Answer::Told(3)));
     assert_eq!(rt;
-        sale.enter(2, 1, 1, 0, 5),
+        sale.enter(offer(2, 1, 1, 0, 5)),
         Err(SaleFault::NotEligible),
         "before a full book"
     );
     assert_eq!(rt;
-        sale.enter(1, 1, 1, 0, 5),
+        sale.enter(offer(1, 1, 1, 0, 5)),
         Err(SaleFault::Book(BookFault::Full))
     );
-    assert_eq!(rt; sale.raise(1, 3, 1, 10_000, 5), Err(SaleFault::NoClearing));
+    assert_eq!(rt;
+        sale.raise(raise(1, 3, 1, 10_000, 5)),
+        Err(SaleFault::NoClearing)
+    );
 }
 
 fn raises<B: StepBook + Drop>(rt: &impl Abort, book: B) {
@@ -98,12 +138,15 @@ fn raises<B: StepBook + Drop>(rt: &impl Abort, book: B) {
         Ok(Answer::Told(100))
     );
     assert_eq!(rt; sale.open(&[100]), Ok(Answer::Told(1)));
-    assert_eq!(rt; sale.enter(1, 1, 60, 400, 5), Ok(Answer::Told(1)));
-    assert_eq!(rt; sale.enter(2, 1, 60, 300, 6), Ok(Answer::Told(2)));
+    assert_eq!(rt; sale.enter(offer(1, 1, 60, 400, 5)), Ok(Answer::Told(1)));
+    assert_eq!(rt; sale.enter(offer(2, 1, 60, 300, 6)), Ok(Answer::Told(2)));
     assert_eq!(rt; sale.close(), Ok(Answer::Closed(0, false)));
-    assert_eq!(rt; sale.raise(3, 0, 0, 10_001, 5), Err(SaleFault::RoundShut));
+    assert_eq!(rt;
+        sale.raise(raise(3, 0, 0, 10_001, 5)),
+        Err(SaleFault::RoundShut)
+    );
     assert_eq!(rt; sale.open(&[100]), Ok(Answer::Told(2)));
-    assert_eq!(rt; sale.enter(1, 1, 1, 0, 6), Err(SaleFault::EntryOver));
+    assert_eq!(rt; sale.enter(offer(1, 1, 1, 0, 6)), Err(SaleFault::EntryOver));
     raises_in_order(rt, &mut sale);
     raises_low(rt, &mut sale);
 }
@@ -113,42 +156,63 @@ fn raises_in_order<S: PhaseSheet + Drop, B: StepBook + Drop>(
     rt: &impl Abort,
     sale: &mut Sale<S, B>,
 ) {
-    assert_eq!(rt; sale.raise(3, 3, 0, 10_001, 5), Err(SaleFault::NoSeat));
     assert_eq!(rt;
-        sale.raise(1, 0, 0, 10_001, 5),
+        sale.raise(raise(3, 3, 0, 10_001, 5)),
+        Err(SaleFault::NoSeat)
+    );
+    assert_eq!(rt;
+        sale.raise(raise(1, 0, 0, 10_001, 5)),
         Err(SaleFault::Book(BookFault::NoStep))
     );
     assert_eq!(rt;
-        sale.raise(1, 3, 0, 10_001, 5),
+        sale.raise(raise(1, 3, 0, 10_001, 5)),
         Err(SaleFault::Book(BookFault::NoStep))
     );
-    assert_eq!(rt; sale.raise(1, 2, 0, 10_001, 5), Err(SaleFault::OtherSeat));
-    assert_eq!(rt; sale.raise(2, 2, 0, 10_001, 5), Err(SaleFault::RaiseShares));
     assert_eq!(rt;
-        sale.raise(2, 2, 61, 10_001, 5),
+        sale.raise(raise(1, 2, 0, 10_001, 5)),
+        Err(SaleFault::OtherSeat)
+    );
+    assert_eq!(rt;
+        sale.raise(raise(2, 2, 0, 10_001, 5)),
         Err(SaleFault::RaiseShares)
     );
     assert_eq!(rt;
-        sale.raise(2, 2, 60, 10_001, 5),
+        sale.raise(raise(2, 2, 61, 10_001, 5)),
+        Err(SaleFault::RaiseShares)
+    );
+    assert_eq!(rt;
+        sale.raise(raise(2, 2, 60, 10_001, 5)),
         Err(SaleFault::DiscountSize)
     );
     assert_eq!(rt;
-        sale.raise(2, 2, 60, 10_000, 5),
+        sale.raise(raise(2, 2, 60, 10_000, 5)),
         Err(SaleFault::StampBehind)
     );
 }
 
 // At clearing plus increment a raise passes, one hundredth below it does not; nor does one to the step's own discount.
 fn raises_low<S: PhaseSheet + Drop, B: StepBook + Drop>(rt: &impl Abort, sale: &mut Sale<S, B>) {
-    assert_eq!(rt; sale.raise(2, 2, 30, 399, 6), Err(SaleFault::LowRaise));
-    assert_eq!(rt; sale.raise(1, 1, 60, 400, 6), Err(SaleFault::LowRaise));
-    assert_eq!(rt; sale.raise(2, 2, 30, 400, 6), Ok(Answer::Told(3)));
-    assert_eq!(rt; sale.raise(2, 2, 31, 400, 6), Err(SaleFault::RaiseShares));
     assert_eq!(rt;
-        sale.raise(2, 2, 30, 400, 6),
+        sale.raise(raise(2, 2, 30, 399, 6)),
+        Err(SaleFault::LowRaise)
+    );
+    assert_eq!(rt;
+        sale.raise(raise(1, 1, 60, 400, 6)),
+        Err(SaleFault::LowRaise)
+    );
+    assert_eq!(rt; sale.raise(raise(2, 2, 30, 400, 6)), Ok(Answer::Told(3)));
+    assert_eq!(rt;
+        sale.raise(raise(2, 2, 31, 400, 6)),
+        Err(SaleFault::RaiseShares)
+    );
+    assert_eq!(rt;
+        sale.raise(raise(2, 2, 30, 400, 6)),
         Err(SaleFault::Book(BookFault::Full))
     );
-    assert_eq!(rt; sale.raise(2, 3, 1, 400, 5), Err(SaleFault::StampBehind));
+    assert_eq!(rt;
+        sale.raise(raise(2, 3, 1, 400, 5)),
+        Err(SaleFault::StampBehind)
+    );
 }
 
 fn changes<B: StepBook + Drop, C: StepBook + Drop>(rt: &impl Abort, one: B, other: C) {
@@ -162,7 +226,7 @@ fn changes<B: StepBook + Drop, C: StepBook + Drop>(rt: &impl Abort, one: B, othe
     assert_eq!(rt; first.start(&[16_000_000]), Ok(Answer::Told(100)));
     assert_eq!(rt; second.changeover(&first), Err(SaleFault::FirstGoing));
     assert_eq!(rt; first.open(&[0]), Ok(Answer::Told(1)));
-    assert_eq!(rt; first.enter(1, 1, 60, 0, 0), Ok(Answer::Told(1)));
+    assert_eq!(rt; first.enter(offer(1, 1, 60, 0, 0)), Ok(Answer::Told(1)));
     assert_eq!(rt; first.close(), Ok(Answer::Closed(0, false)));
     assert_eq!(rt; first.open(&[0]), Ok(Answer::Told(2)));
     assert_eq!(rt; first.close(), Ok(Answer::Closed(0, true)));
@@ -177,8 +241,8 @@ fn owes_half<B: StepBook + Drop>(rt: &impl Abort, book: B) {
     assert_eq!(rt; sale.start(&[1_000_000]), Ok(Answer::Told(100)));
     assert_eq!(rt; sale.open(&[0; 7]), Err(SaleFault::RowLength));
     assert_eq!(rt; sale.open(&[0; 2]), Ok(Answer::Told(1)));
-    assert_eq!(rt; sale.enter(1, 3, 1, 0, 0), Err(SaleFault::NoMarket));
-    assert_eq!(rt; sale.enter(1, 1, 1, 0, 0), Ok(Answer::Told(1)));
+    assert_eq!(rt; sale.enter(offer(1, 3, 1, 0, 0)), Err(SaleFault::NoMarket));
+    assert_eq!(rt; sale.enter(offer(1, 1, 1, 0, 0)), Ok(Answer::Told(1)));
     assert_eq!(rt; sale.close(), Ok(Answer::Closed(0, false)));
     assert_eq!(rt;
         sale.account(1),
