@@ -1,17 +1,12 @@
 -- Where an account is opened, and where one is cut.
-use Rattle.std.proofs.Common.{◌≡◌, ℕ, ◌-◌, ◌<◌, ◌≤◌, false, List, [], ◌∷◌, ◌++◌, map, length, get_or, set, sym, ap, ◌∙◌, arith}
+use Rattle.std.proofs.Common.{◌≡◌, ℕ, ◌-◌, ◌<◌, ◌≤◌, false, List, map, length, get_or, set, sym, ap, ◌∙◌, arith}
 use Rattle.std.proofs.lemmas.List.{get_or-map, map-set, length-map}
-use Rattle.std.proofs.lemmas.Bool.{cond-true, cond-false, lt-ltb}
+use Rattle.std.proofs.lemmas.Bool.{cond-false}
 use Rattle.std.proofs.lemmas.Bool.Decides.{nat_tests}
-use Rattle.rules.specs.declared.account.Account.{Account}
 use Rattle.rules.specs.Sales.{nobody, outside}
 use Rattle.accounts.specs.declared.account.SeatAccount.{SeatAccount}
-use Rattle.accounts.specs.Accounts.{opened_with, with_opened, cut_by, with_cut}
+use Rattle.accounts.specs.Accounts.{cut_by, with_cut}
 use Rattle.accounts.specs.Seated.{plain_of}
-
--- there is room for one more below 24
-pub opens_below : (bought : ℕ) (accounts : List Account) → length accounts < 24 → with_opened bought accounts ≡ accounts ++ opened_with bought ∷ []
-opens_below bought accounts room = cond-true _ _ _ (lt-ltb (length accounts) 24 room)
 
 -- there is a seat from 1 to the length
 inside : (seat top : ℕ) → 1 ≤ seat → seat ≤ top → outside seat top ≡ false

@@ -22,17 +22,6 @@ put_accepted size steps new n h =
       | inr s ↦ let z : ◌≡◌ {A = ℕ} 0 1 = let e = simp s at h in (cc) in absurd (omega arith)
     ]
 
--- a put that was refused changed nothing
-pub put_refused : (size : ℕ) (steps : List StepRecord) (new : StepRecord) (fault : BookFault) → Err fault ≡ put_reply size steps new → put_after size steps new ≡ steps
-put_refused size steps new fault h =
-    elim (cases_Bool (step_ok new)) [
-      | inl s ↦ elim (cases_Bool (eqb (length steps) size)) [
-        | inl t ↦ simp (s, t)
-        | inr t ↦ let z : ◌≡◌ {A = ℕ} 0 1 = let e = simp (s, t) at h in (cc) in absurd (omega arith)
-      ]
-      | inr s ↦ simp s
-    ]
-
 -- the step that came last has the last number
 pub at_last : (steps : List StepRecord) (new : StepRecord) → at (steps ++ new ∷ []) (length steps + 1) ≡ new
 at_last steps new = get_or_push steps new no_step (length steps + 1 - 1) (omega arith)

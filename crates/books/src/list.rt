@@ -67,18 +67,18 @@ impl<M: StepMemory> StepBook for M {
 
     fn put(&mut self, step: NewStep) -> Result<u16, BookFault> {
         let number = len(self) as u16 + 1;
-        let new = Step::checked(entered(number, step)).ok_or(BookFault::BadStep)?;
+        let new = Step::try_from(entered(number, step))?;
         self.append(new)?;
         Ok(number)
     }
 
     fn read(&self, number: u16) -> Result<Step, BookFault> {
-        Step::checked(record_of(self, number)?).ok_or(BookFault::NoStep)
+        Step::try_from(record_of(self, number)?)
     }
 
     fn set(&mut self, number: u16, shares: Shares) -> Result<(), BookFault> {
         let old = self.read(number)?.stored();
-        let new = Step::checked(StepRecord { shares, ..old }).ok_or(BookFault::BadStep)?;
+        let new = Step::try_from(StepRecord { shares, ..old })?;
         self.replace(number as usize - 1, new);
         Ok(())
     }

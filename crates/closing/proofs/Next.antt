@@ -6,14 +6,9 @@ use Rattle.ranks.specs.Order.{Behind, Stands}
 use Rattle.steps.specs.declared.record.StepRecord.{StepRecord}
 use Rattle.steps.specs.Rank.{before, market_of, step_precedes}
 use Rattle.steps.specs.Rule.{no_step}
-use Rattle.books.specs.Replies.{at, held, place_of, NextReply}
-use Rattle.books.proofs.After.{held_true}
+use Rattle.books.specs.Replies.{at, place_of, NextReply}
 use Rattle.closing.proofs.Places.{each, bid_at}
 use Rattle.closing.proofs.Walk.{behind, Comes, Ends}
-
--- the number that next answers is held
-pub next_held : (steps : List StepRecord) (m n p : ℕ) → NextReply steps m n (Ok (Some p)) → held steps p ≡ true
-next_held steps m n p h = held_true steps p h.1 (omega (arith, h.1, h.2.within))
 
 module _ (g : StepRecord → StepRecord) (kept : (x : StepRecord) → (g x).bid ≡ x.bid) (xs : List StepRecord) (m n : ℕ) (within : n ≤ length xs) where
   same_rank : (j k : ℕ) → before (get_or (map g xs) j no_step).bid (get_or (map g xs) k no_step).bid ≡ before (get_or xs j no_step).bid (get_or xs k no_step).bid

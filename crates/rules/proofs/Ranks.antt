@@ -17,9 +17,6 @@ transitive a b c p q = grind (arith, nat_tests)
 pub total_order : (a b : Bid) → (a.number ≡ b.number → ⊥) → before a b ≡ false → before b a ≡ true
 total_order a b ne p = grind (arith, nat_tests)
 
-by_discount : (a b : Bid) → b.discount < a.discount → before a b ≡ true
-by_discount a b h = grind (arith, nat_tests)
-
 pub discounts_fall : (a b : Bid) → before a b ≡ true → b.discount ≤ a.discount
 discounts_fall a b p = grind (arith, nat_tests)
 

@@ -97,10 +97,9 @@ impl SaleFault {
     pub fn layer(self) -> Layer
         ensures { result ≡ sale_layer self }
     {
-        if let SaleFault::Book(_) = self {
-            Layer::Book
-        } else {
-            Layer::Sale
+        match self {
+            SaleFault::Book(fault) => fault.layer(),
+            _ => Layer::Sale,
         }
     }
 

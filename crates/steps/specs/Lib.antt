@@ -1,3 +1,4 @@
 pub mod Faults
 pub mod Rule
 pub mod Rank
+pub mod Checked

@@ -1,7 +1,9 @@
 //! The step's rule, and a step from a record that keeps it.
-ghost use Rattle.std.specs.Prelude.{◌≡◌, true, false, MatchOption};
+ghost use Rattle.std.specs.Prelude.{◌≡◌, true};
 ghost use Rattle.steps.specs.Rule.{step_ok, offer_ok, shares_ok};
+ghost use Rattle.steps.specs.Checked.{Checked};
 
+use crate::fault::BookFault;
 use crate::record::{Shares, StepRecord};
 use crate::step::Step;
 
@@ -21,19 +23,23 @@ impl Shares {
     }
 }
 
-impl Step {
-    /// The step of a record that keeps the rule, and none of another.
-    pub fn checked(stored: StepRecord) -> Option<Step>
-        ensures { MatchOption result (step_ok stored ≡ false) (λ step. (step_ok stored ≡ true) × (step.stored ≡ stored)) }
-    {
+/// The step of a record that keeps the rule; any other is refused.
+impl TryFrom<StepRecord> for Step {
+    type Error = BookFault;
+
+    ghost try_from_gives = { Checked };
+
+    fn try_from(stored: StepRecord) -> Result<Step, BookFault> {
         let offer = offer_keeps(stored.bid.market, stored.bid.discount);
         if offer && stored.shares.keep_rule() {
-            Some(Step { stored })
+            Ok(Step { stored })
         } else {
-            None
+            Err(BookFault::BadStep)
         }
     }
+}
 
+impl Step {
     /// The record of the step.
     pub fn stored(self) -> StepRecord
         ensures same { result ≡ self.stored }

@@ -1,13 +1,11 @@
 -- What a test keeps of a ranked list.
-use Rattle.std.proofs.Common.{◌≡◌, ℕ, zero, suc, ◌<◌, Bool, true, false, cond, List, [], ◌∷◌, length, get_or, drop, filter, sym, refl, ap, ◌∙◌, inl, inr, arith}
+use Rattle.std.proofs.Common.{◌≡◌, Bool, true, false, cond, List, [], ◌∷◌, filter, sym, refl, ap, ◌∙◌, inl, inr, arith}
 use Rattle.std.proofs.lemmas.Bool.Decides.{nat_tests}
 use Rattle.steps.specs.declared.record.Bid.{Bid}
 use Rattle.steps.specs.declared.record.StepRecord.{StepRecord}
 use Rattle.steps.specs.Rank.{before, step_precedes}
-use Rattle.steps.specs.Rule.{no_step}
 use Rattle.rules.specs.Lists.{In}
 use Rattle.rules.specs.Books.{bid_of}
-use Rattle.rules.proofs.Totals.{in_at}
 use Rattle.rules.proofs.Ranks.{irreflexive}
 use Rattle.rules.proofs.DownRank.{Sorted}
 
@@ -48,13 +46,3 @@ kept_from p y (x ∷ ys) s (inr i) here ahead after =
     let skipped : step_precedes y x ≡ false = asymmetric x.bid y.bid before-y in
     let rest = kept_from p y ys s.1 i here (λ z j. ahead z (inr j)) (λ z j. after z (inr j)) in
     cc
-
--- behind the one at place i of a ranked list come those from place i + 1 on
-pub kept_behind : (ys : List StepRecord) (i : ℕ) → Sorted bid_of ys → i < length ys → filter (step_precedes (get_or ys i no_step)) ys ≡ drop (suc i) ys
-kept_behind [] i s l = absurd (omega arith)
-kept_behind (y ∷ ys) zero s l =
-    ap (λ t. cond t (y ∷ filter (step_precedes y) ys) (filter (step_precedes y) ys)) (irreflexive y.bid) ∙ kept_all (step_precedes y) ys (λ z j. (s.0 z j).0)
-kept_behind (y ∷ ys) (suc i) s l =
-    let z = get_or ys i no_step in
-    let skipped : step_precedes z y ≡ false = asymmetric y.bid z.bid (s.0 z (in_at ys i no_step (omega arith))).0 in
-    ap (λ t. cond t (y ∷ filter (step_precedes z) ys) (filter (step_precedes z) ys)) skipped ∙ kept_behind ys i s.1 (omega arith)

@@ -1,5 +1,5 @@
 -- What a book answers for the next step of a market is the next down the market's rank.
-use Rattle.std.proofs.Common.{◌≡◌, ℕ, suc, ◌+◌, ◌-◌, ◌<◌, ◌≤◌, Bool, true, false, cond, ◌||◌, eqb, List, [], ◌∷◌, length, get_or, drop, Some, None, Ok, filter, Option, sym, refl, ap, ◌∙◌, subst, inl, inr, add-one, arith}
+use Rattle.std.proofs.Common.{◌≡◌, ℕ, suc, ◌+◌, ◌-◌, ◌<◌, ◌≤◌, Bool, true, false, cond, ◌||◌, eqb, List, [], ◌∷◌, length, get_or, Some, None, Ok, filter, sym, refl, ap, ◌∙◌, subst, inl, inr, arith}
 use Rattle.std.proofs.lemmas.Bool.{eqb-true, eqb-false, ne_eqb, and_parts, both_ways}
 use Rattle.ranks.specs.Order.{Behind, Stands}
 use Rattle.steps.specs.declared.record.StepRecord.{StepRecord}
@@ -13,7 +13,7 @@ use Rattle.rules.specs.Books.{bid_of}
 use Rattle.rules.proofs.Totals.{in_at}
 use Rattle.rules.proofs.Ranks.{Numbered, transitive}
 use Rattle.rules.proofs.DownRank.{Sorted, from_rank, into_rank, in_rank_sorted}
-use Rattle.winners.proofs.Kept.{kept_all, kept_none, kept_from, kept_behind}
+use Rattle.winners.proofs.Kept.{kept_all, kept_none, kept_from}
 
 -- the step x ranks behind the one of number n; every step ranks behind number 0
 abbrev pub behind : List StepRecord → ℕ → StepRecord → Bool
@@ -22,11 +22,6 @@ behind xs n x = eqb n 0 || step_precedes (at xs n) x
 -- those of the market m, in rank, that come behind the step of number n
 abbrev pub rank_behind : ℕ → List StepRecord → ℕ → List StepRecord
 rank_behind m xs n = filter (behind xs n) (in_rank bid_of m xs)
-
--- the number of the first, if there is one
-abbrev pub first_number : List StepRecord → Option ℕ
-first_number [] = None
-first_number (x ∷ xs) = Some x.bid.number
 
 -- what holds at each place holds of each in the list
 each : (P : StepRecord → Type 0) (xs : List StepRecord) → ((i : ℕ) → i < length xs → P (get_or xs i no_step)) → (x : StepRecord) → In x xs → P x
@@ -112,28 +107,3 @@ module _ (m : ℕ) (xs : List StepRecord) (sound : SoundBelow xs (length xs)) wh
   pub next_none : (n : ℕ) → NextReply xs m n (Ok None) → rank_behind m xs n ≡ []
   next_none n h =
       kept_none (behind xs n) (in_rank bid_of m xs) (λ z i. none_behind n h.0 (λ _. Unit {0}) (λ k l s _. h.2.first no_step k l s) z i tt)
-
-  next_number : (n : ℕ) (r : Option ℕ) → NextReply xs m n (Ok r) → r ≡ first_number (rank_behind m xs n)
-  next_number n None h = sym (ap first_number (next_none n h))
-  next_number n (Some p) h =
-      let number : p ≡ (at xs p).bid.number = omega (arith, number_at (p - 1) h.2.within, h.1) in
-      ap (λ k. Some k) number ∙ sym (ap first_number (next_first n p h))
-
-  -- at the top next answers the first of the rank, or none where the rank is empty
-  pub top_in_rank : (r : Option ℕ) → NextReply xs m 0 (Ok r) → r ≡ first_number (in_rank bid_of m xs)
-  top_in_rank r h = next_number 0 r h ∙ ap first_number (behind_top m xs)
-
-  -- behind the one at place i of the rank it answers the one at place i + 1, or none where that is past the end
-  pub next_in_rank : (i : ℕ) (r : Option ℕ) → i < length (in_rank bid_of m xs) → NextReply xs m (get_or (in_rank bid_of m xs) i no_step).bid.number (Ok r)
-      → r ≡ first_number (drop (i + 1) (in_rank bid_of m xs))
-  next_in_rank i r l h =
-      let rank = in_rank bid_of m xs in
-      let y = get_or rank i no_step in
-      let own = (from_rank bid_of m y xs (in_at rank i no_step l)).0 in
-      let back = each (λ z. (at xs z.bid.number ≡ z) × (1 ≤ z.bid.number)) xs placed y own in
-      next_number y.bid.number r h
-      ∙ ap first_number (behind_number y.bid.number back.1 ∙ ap (λ z. filter (step_precedes z) rank) back.0 ∙ kept_behind rank i ranked l)
-      ∙ ap (λ k. first_number (drop k rank)) (sym (add-one i))
-    where
-      placed : (k : ℕ) → k < length xs → (at xs (get_or xs k no_step).bid.number ≡ get_or xs k no_step) × (1 ≤ (get_or xs k no_step).bid.number)
-      placed k l = (ap (λ j. get_or xs j no_step) (omega (arith, number_at k l)), omega (arith, number_at k l))
