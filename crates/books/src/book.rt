@@ -47,7 +47,8 @@ pub trait StepBook {
         ensures reply { result ≡ set_reply (steps self.old) number shares }
         ensures after { steps self.new ≡ set_after (steps self.old) number shares };
 
-    /// The number of the market's first step that ranks behind the one of the given number; 0 asks for the top.
+    /// The number of the market's first step that ranks behind the one of the given number; 0, which no step has, asks for
+    /// the top.
     fn next(&self, market: u8, number: u16) -> Result<Option<u16>, BookFault>
         ensures { NextReply (steps self.now) market number result };
 }

@@ -4,7 +4,8 @@ ghost use Rattle.books.specs.Lawful.{SoundBelow};
 
 use steps::StepRecord;
 
-/// The steps are the first `count` of the records, in order of entry. What the others hold does not matter.
+/// The steps are the first `count` of the records, in order of entry: lent memory can't grow, so a count stands beside it.
+/// What the other records hold does not matter.
 #[derive(Drop)]
 pub struct FlatBook<'a> {
     pub(crate) records: &'a mut [StepRecord],

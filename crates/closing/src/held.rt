@@ -1,4 +1,5 @@
-//! Calls of a book that are not refused: the number is held, and the shares keep the rule.
+//! Calls of a book that are not refused: the number is held, and the shares keep the rule. A refusal can't come, and none is
+//! passed on: a closing has none to give for a book.
 ghost use Rattle.std.specs.Prelude.{◌≡◌, ◌-◌, ◌≤◌, true, length, Ok, slice_set};
 ghost use Rattle.steps.specs.Rule.{shares_ok, step_ok};
 ghost use Rattle.books.specs.Replies.{at, held, reshared, NextReply};

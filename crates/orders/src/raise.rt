@@ -116,7 +116,7 @@ fn take_out<B: StepBook>(book: &mut B, step: StepRecord, number: u16, shares: u8
     );
 }
 
-// Whether a raise of a step at its own discount falls short of the clearing discount and the increment, or isn't above its own.
+// Four figures that meet only here. Whether a raise of a step at its own discount falls short of the clearing discount and the increment, or isn't above its own.
 fn is_low(clearing: u16, increment: u16, own: u16, discount: u16) -> bool
     ensures { result ≡ low_raise (Some clearing) increment own discount }
 {

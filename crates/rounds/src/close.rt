@@ -72,7 +72,8 @@ fn cut_seats<S: PhaseSheet, B: StepBook>(sheet: &S, book: &B, round: u64, seats:
     }
 }
 
-// What the seat owes in the round, from its eligibility now, and hasn't standing.
+// What the seat owes in the round, from its eligibility now, and hasn't standing. The sale's parts come one by one, since its
+// seats are lent to be cut meanwhile.
 fn lacking<S: PhaseSheet, B: StepBook>(
     sheet: &S,
     book: &B,

@@ -1,11 +1,13 @@
 //! What a sale keeps besides its sheet and its book.
 use accounts::Seats;
 
-/// The figures of a sale. Increments and clearing discounts have seven places, that of market m at m - 1.
+/// The figures of a sale. Increments and clearing discounts have seven places, that of market m at m - 1: two tables, since an
+/// opening writes the one whole and a closing the other.
 #[derive(Drop)]
 pub struct Ledger {
     pub lots: u8,
     pub round: u64,
+    // Two flags, as the rules have them: each is asked for by itself, and a sale can be neither open nor ended.
     pub opened: bool,
     pub ended: bool,
     /// Whether a raise was accepted in this round.

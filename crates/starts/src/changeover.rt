@@ -63,10 +63,8 @@ fn bought_left<S: PhaseSheet + Drop, B: StepBook + Drop>(sale: &SaleParts<S, B>,
     ensures { result ≡ left_to (state_of S.PhaseSheet B.StepBook sale.now) seat (account (state_of S.PhaseSheet B.StepBook sale.now) (seat - 1)) }
 {
     let spent = sale.sheet.weight(1) as u32 * shares_won_by(&sale.book, seat);
-    match sale.ledger.seats.account(seat) {
-        Some(account) => account.bought.saturating_sub(spent),
-        None => 0,
-    }
+    let account = sale.ledger.seats.account(seat);
+    account.map_or(0, |account| account.bought.saturating_sub(spent))
 }
 
 // The accounts that a later sale starts with.

@@ -94,6 +94,8 @@ impl Measure for WonByIn {
     }
 }
 
+// Each sum that a sale asks for has a name of its own, which says it in the rules' words and bounds it.
+
 /// The shares won in the book.
 pub fn shares_won<B: StepBook>(book: &B) -> u32
     ensures sum { result ≡ total won (B.StepBook.steps book.now) }

@@ -1,4 +1,4 @@
-use Rattle.std.proofs.Common.{◌≤◌, mul-le-mul, arith}
+use Rattle.std.proofs.Common.{◌≤◌, mul-le-mul, arith, rules}
 use Rattle.starts.proofs.Carried.{nothing_left}
 use Rattle.sale_parts.specs.State.{state_of}
 use Rattle.starts.proofs.changeover.bought_left.Goals as goal
@@ -9,6 +9,7 @@ overflow_mul-spent g c =
     let w : c.weight.result ≤ 400 = omega (arith, c.weight.ensures, light) in
     omega (arith, mul-le-mul w c.shares_won_by.ensures.most)
 
-pub returns-in-None : goal.returns-in-None
-returns-in-None g c =
-    nothing_left (state_of g.S.PhaseSheet g.B.StepBook c.args.sale.now) c.args.seat c.requires c.in-None.ensures
+pub returns : goal.returns
+returns g c =
+    let none = nothing_left (state_of g.S.PhaseSheet g.B.StepBook c.args.sale.now) c.args.seat c.requires in
+    search rules
