@@ -1,7 +1,7 @@
 //! The calls of the table of accounts.
-ghost use Rattle.std.specs.Prelude.{◌≡◌, ◌-◌, ◌≤◌, true, false, [], map, length, get_or, take, MatchOption, nat_lt, slice_index_or};
+ghost use Rattle.std.specs.Prelude.{◌≡◌, ◌-◌, ◌≤◌, true, false, [], map, length, get_or, take, MatchOption, nat_lt, slice_index_or, slice_set};
 ghost use Rattle.rules.specs.Sales.{nobody, dollars, outside};
-ghost use Rattle.accounts.specs.Accounts.{with_opened, with_cut};
+ghost use Rattle.accounts.specs.Accounts.{with_opened, with_cut, cut_by};
 ghost use Rattle.accounts.specs.Seated.{seated};
 
 use crate::account::SeatAccount;
@@ -68,9 +68,15 @@ impl Seats {
     pub fn cut(&mut self, seat: u8, by: u32)
         ensures { seated self.new ≡ with_cut seat by (seated self.old) }
     {
-        let Some(place) = usize::from(seat).checked_sub(1) else {
-            return;
-        };
+        if let Some(place) = usize::from(seat).checked_sub(1) {
+            self.cut_at(place, by);
+        }
+    }
+
+    // Cuts the account of the row at the place, where there is one.
+    fn cut_at(&mut self, place: usize, by: u32)
+        ensures { seated self.new ≡ slice_set (seated self.old) place (cut_by by (slice_index_or (seated self.old) place nobody)) }
+    {
         if let Some(row) = self.rows.get_mut(place) {
             row.cut(by);
         }

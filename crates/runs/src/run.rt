@@ -57,6 +57,7 @@ fn run_into<S: PhaseSheet + Drop, B: StepBook + Drop, T: PhaseSheet + Drop, C: S
     requires room { length calls.now ≤ vec_capacity told.old }
     ensures replied { told.new.items ≡ replies (state_of S.PhaseSheet B.StepBook sale.old) (calls_of T.PhaseSheet C.StepBook calls.now) }
     ensures left { state_of S.PhaseSheet B.StepBook sale.new ≡ run (state_of S.PhaseSheet B.StepBook sale.old) (calls_of T.PhaseSheet C.StepBook calls.now) }
+    ensures fair { StaysFair (state_of S.PhaseSheet B.StepBook sale.old) (calls_of T.PhaseSheet C.StepBook calls.now) (state_of S.PhaseSheet B.StepBook sale.new) }
 {
     for call in calls {
         let reply = perform(sale, call);

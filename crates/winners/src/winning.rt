@@ -1,6 +1,7 @@
 //! The winning steps of a market, gathered down its rank.
-ghost use Rattle.std.specs.Prelude.{◌≡◌, ◌+◌, ◌<◌, ◌≤◌, [], ◌∷◌, ◌++◌, length, IfOk, vec_len, vec_capacity, filter};
-ghost use Rattle.winners.specs.Winning.{is_winning, winning};
+ghost use Rattle.std.specs.Prelude.{◌≡◌, ◌+◌, ◌<◌, ◌≤◌, ℕ, [], ◌∷◌, ◌++◌, length, IfOk, Ok, Some, vec_len, vec_capacity, filter};
+ghost use Rattle.books.specs.Replies.{NextReply};
+ghost use Rattle.winners.specs.Winning.{is_winning, winning, stepped};
 
 use books::StepBook;
 use std::alloc::{AllocError, Global};
@@ -20,20 +21,38 @@ pub fn winners<B: StepBook>(
     Ok(found)
 }
 
-// Walks the market's rank from the top, and adds each winning step to those found. The book refuses none of the numbers
-// that it answers. There is room for every step of the book, so that no push wants memory.
+// Walks the market's rank from the top, and adds each winning step to those found. There is room for every step of the book,
+// so that no push wants memory.
 fn gather<B: StepBook>(book: &B, market: u8, found: &mut Vec<StepRecord>)
     requires { vec_len found.old + length (B.StepBook.steps book.now) ≤ vec_capacity found.old }
     ensures { found.new.items ≡ found.old.items ++ winning market (B.StepBook.steps book.now) }
 {
     // the top ranks behind number 0
     let mut at: u16 = 0;
-    while let Ok(Some(number)) = book.next(market, at) {
-        if let Ok(step) = book.read(number) {
-            add_if_winning(found, step.stored());
-        }
+    while let Some(number) = add_next(book, market, at, found) {
         at = number;
     }
+}
+
+// Adds the market's next step behind the one of the given number if it wins, and answers its number. The book refuses neither
+// the number given nor the one that it answers.
+fn add_next<B: StepBook>(
+    book: &B,
+    market: u8,
+    number: u16,
+    found: &mut Vec<StepRecord>,
+) -> Option<u16>
+    requires held { number ≤ length (B.StepBook.steps book.now) }
+    requires room { (next : ℕ) → NextReply (B.StepBook.steps book.now) market number (Ok (Some next)) → vec_len found.old < vec_capacity found.old }
+    ensures next { NextReply (B.StepBook.steps book.now) market number (Ok result) }
+    ensures items { found.new.items ≡ found.old.items ++ filter is_winning (stepped (B.StepBook.steps book.now) result) }
+    ensures len { vec_len found.new ≤ vec_len found.old + 1 }
+    ensures capacity { vec_capacity found.new ≡ vec_capacity found.old }
+{
+    let next = book.next(market, number).ok()??;
+    let step = book.read(next).ok()?;
+    add_if_winning(found, step.stored());
+    Some(next)
 }
 
 // Adds a step that wins to those found, and passes over any other.

@@ -11,8 +11,3 @@ returns-in_err-told-clause-fair g c =
     let made = made_of c.from_residual.result (calls_of g.T.PhaseSheet g.C.StepBook c.args.calls.now) in
     let left : s ≡ run s made = search rules in
     stays_fair s s made (g.met.S.PhaseSheet.lawful c.args.sale.now.parts.sheet) left
-
-pub returns-clause-fair : goal.returns-clause-fair
-returns-clause-fair g c =
-    stays_fair (state_of g.S.PhaseSheet g.B.StepBook c.args.sale.now) (state_of g.S.PhaseSheet g.B.StepBook c.run_into.new.sale)
-    (calls_of g.T.PhaseSheet g.C.StepBook c.args.calls.now) (g.met.S.PhaseSheet.lawful c.args.sale.now.parts.sheet) c.run_into.ensures.left

@@ -2,6 +2,7 @@ use Rattle.std.proofs.Common.{length, take, ap, ◌∙◌, arith, length-take}
 use Rattle.std.proofs.lemmas.List.{take_all}
 use Rattle.rules.specs.Parts.{replies}
 use Rattle.rules.specs.Sales.{run}
+use Rattle.rules.proofs.Runs.{stays_fair}
 use Rattle.sales.specs.State.{state_of}
 use Rattle.runs.specs.Calls.{call_of, calls_of}
 use Rattle.runs.proofs.Runs.{reply_for_each, one_reply_more, one_call_more}
@@ -31,4 +32,9 @@ pub returns : goal.returns
 returns g c =
     let s = state_of g.S.PhaseSheet g.B.StepBook c.args.sale.now in
     let all = ap (calls_of g.T.PhaseSheet g.C.StepBook) (take_all c.loop-call.call-index c.args.calls.now c.loop-call-test.false) in
-    record { replied = c.loop-call.invariant.0 ∙ ap (replies s) all; left = c.loop-call.invariant.1 ∙ ap (run s) all }
+    let left = c.loop-call.invariant.1 ∙ ap (run s) all in
+    record {
+      replied = c.loop-call.invariant.0 ∙ ap (replies s) all;
+      left = left;
+      fair = stays_fair s _ (calls_of g.T.PhaseSheet g.C.StepBook c.args.calls.now) (g.met.S.PhaseSheet.lawful c.args.sale.now.parts.sheet) left;
+    }
