@@ -1,10 +1,11 @@
 //! The 16 bytes of an event, read and written.
 ghost use Rattle.std.specs.Prelude.{◌≡◌, Ok};
 ghost use Rattle.records.specs.Bytes.{all_zero};
-ghost use Rattle.records.specs.Event.{seen, decoded, value_of, Encoded, opening, new_step, raise};
+ghost use Rattle.records.specs.Event.{seen, decoded, value_of, Encoded, opening, value_of_new_step, value_of_raise};
 
 use crate::event::Event;
 use faults::RecordFault;
+use offers::{NewStep, Raise};
 
 // Whether every byte is zero.
 fn all_zero(bytes: &[u8]) -> bool
@@ -29,20 +30,20 @@ pub fn decode<'a>(record: &'a [u8; 16]) -> Result<Event<'a>, RecordFault>
     ]);
     match record[0] {
         1 if record[1] == 0 => Ok(Event::Open(&record[2..16])),
-        2 if all_zero(&record[4..6]) => Ok(Event::NewStep {
+        2 if all_zero(&record[4..6]) => Ok(Event::NewStep(NewStep {
             seat: record[1],
             market: record[2],
             shares: record[3],
             discount,
             stamp,
-        }),
-        3 if record[3] == 0 => Ok(Event::Raise {
+        })),
+        3 if record[3] == 0 => Ok(Event::Raise(Raise {
             seat: record[1],
-            shares: record[2],
             step: u16::from_be_bytes([record[4], record[5]]),
+            shares: record[2],
             discount,
             stamp,
-        }),
+        })),
         4 if all_zero(&record[1..16]) => Ok(Event::Close),
         5 if all_zero(&record[1..16]) => Ok(Event::Changeover),
         1..=5 => Err(RecordFault::NotZero),
@@ -64,9 +65,16 @@ fn encode_opening(row: &[u8]) -> Result<[u8; 16], RecordFault>
 }
 
 // The bytes of a new step.
-fn encode_new_step(seat: u8, market: u8, shares: u8, discount: u16, stamp: u64) -> [u8; 16]
-    ensures { Encoded (Ok result) (new_step seat market shares discount stamp) }
+fn encode_new_step(step: NewStep) -> [u8; 16]
+    ensures { Encoded (Ok result) (value_of_new_step step) }
 {
+    let NewStep {
+        seat,
+        market,
+        shares,
+        discount,
+        stamp,
+    } = step;
     let [d0, d1] = discount.to_be_bytes();
     let [t0, t1, t2, t3, t4, t5, t6, t7] = stamp.to_be_bytes();
     [
@@ -75,9 +83,16 @@ fn encode_new_step(seat: u8, market: u8, shares: u8, discount: u16, stamp: u64) 
 }
 
 // The bytes of a raise.
-fn encode_raise(seat: u8, shares: u8, step: u16, discount: u16, stamp: u64) -> [u8; 16]
-    ensures { Encoded (Ok result) (raise seat shares step discount stamp) }
+fn encode_raise(raise: Raise) -> [u8; 16]
+    ensures { Encoded (Ok result) (value_of_raise raise) }
 {
+    let Raise {
+        seat,
+        step,
+        shares,
+        discount,
+        stamp,
+    } = raise;
     let [p0, p1] = step.to_be_bytes();
     let [d0, d1] = discount.to_be_bytes();
     let [t0, t1, t2, t3, t4, t5, t6, t7] = stamp.to_be_bytes();
@@ -92,20 +107,8 @@ pub fn encode(event: Event) -> Result<[u8; 16], RecordFault>
 {
     match event {
         Event::Open(row) => encode_opening(row),
-        Event::NewStep {
-            seat,
-            market,
-            shares,
-            discount,
-            stamp,
-        } => Ok(encode_new_step(seat, market, shares, discount, stamp)),
-        Event::Raise {
-            seat,
-            shares,
-            step,
-            discount,
-            stamp,
-        } => Ok(encode_raise(seat, shares, step, discount, stamp)),
+        Event::NewStep(step) => Ok(encode_new_step(step)),
+        Event::Raise(raise) => Ok(encode_raise(raise)),
         Event::Close => Ok([4, 0, 0, 0, 0, 0, 0, 0, 0, 0, 0, 0, 0, 0, 0, 0]),
         Event::Changeover => Ok([5, 0, 0, 0, 0, 0, 0, 0, 0, 0, 0, 0, 0, 0, 0, 0]),
     }

@@ -8,3 +8,4 @@ mod tests;
 
 pub use codec::{decode, encode};
 pub use event::Event;
+pub use offers::{NewStep, Raise};
