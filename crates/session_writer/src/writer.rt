@@ -33,12 +33,12 @@ pub(crate) fn header_within(
     ensures value { MatchResult result (λ bs. (room_for size deposits events ≡ Ok tt) × (bs ≡ header_of deposits events)) (λ f. room_for size deposits events ≡ Err f) }
     ensures room { OnOk result (Room size deposits events) }
 {
-    let few = u16::try_from(deposits).map_err(|_| FileFault::TooMany)?;
-    let many = u16::try_from(events).map_err(|_| FileFault::TooMany)?;
+    let deposit_count = u16::try_from(deposits).map_err(|_| FileFault::TooMany)?;
+    let event_count = u16::try_from(events).map_err(|_| FileFault::TooMany)?;
     if size < 16 + 4 * deposits + 16 * events {
         return Err(FileFault::NoRoom);
     }
-    Ok(header(few, many))
+    Ok(header(deposit_count, event_count))
 }
 
 /// Writes the header of a session with so many deposits and events.
