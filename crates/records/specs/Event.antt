@@ -5,7 +5,7 @@ use Rattle.faults.specs.declared.record.RecordFault.TheVariants.{RowLength, Unkn
 use Rattle.offers.specs.declared.NewStep.{NewStep}
 use Rattle.offers.specs.declared.Raise.{Raise}
 use Rattle.records.specs.declared.event.Event.{Event}
-use Rattle.records.specs.declared.event.Event.TheVariants.{Open, NewStep as EnterStep, Raise as RaiseStep, Close, Changeover}
+use Rattle.records.specs.declared.event.Event.TheVariants.{Open, NewStep as OfNewStep, Raise as OfRaise, Close, Changeover}
 use Rattle.records.specs.Bytes.{be, bytes_of, all_zero}
 
 -- an event as a value: an opening has its row itself, and not a place in a file
@@ -25,8 +25,8 @@ value_of_raise r = raise r.seat r.shares r.step r.discount r.stamp
 
 abbrev pub value_of : Event → EventValue
 value_of (Open row) = opening row.now
-value_of (EnterStep s) = value_of_new_step s
-value_of (RaiseStep r) = value_of_raise r
+value_of (OfNewStep s) = value_of_new_step s
+value_of (OfRaise r) = value_of_raise r
 value_of Close = close
 value_of Changeover = changeover
 

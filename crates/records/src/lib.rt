@@ -3,6 +3,7 @@
 
 mod codec;
 mod event;
+mod kind;
 #[cfg(test)]
 mod tests;
 

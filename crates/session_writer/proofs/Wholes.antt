@@ -1,19 +1,18 @@
 -- A whole session, written record by record and read back.
-use Rattle.std.proofs.Common.{◌≡◌, ℕ, ◌+◌, ◌-◌, ◌*◌, ◌^◌, ◌<◌, true, false, cond, List, ◌++◌, length, get_or, drop, Ok, Err, Result, sym, refl, ap, ◌∙◌, subst, append_assoc, add_assoc, arith, below_more}
+use Rattle.std.proofs.Common.{◌≡◌, ℕ, ◌+◌, ◌-◌, ◌*◌, ◌^◌, ◌<◌, true, false, cond, List, ◌++◌, length, get_or, drop, Ok, Err, sym, refl, ap, ◌∙◌, subst, append_assoc, add_assoc, arith, below_more}
 use Rattle.std.specs.List.{between, flat_map}
 use Rattle.std.proofs.lemmas.List.{drop_more, length-append}
 use Rattle.std.proofs.lemmas.Bool.Decides.{nat_tests}
-use Rattle.faults.specs.declared.record.RecordFault.{RecordFault}
 use Rattle.faults.specs.declared.record.RecordFault.TheVariants.{RowLength}
 use Rattle.records.specs.Bytes.{be, bytes_of}
-use Rattle.records.specs.Event.{EventValue, close, encoded, decoded, row_fits, Keeps}
+use Rattle.records.specs.Event.{EventValue, close, encoded, decoded, row_fits}
 use Rattle.records.proofs.BigEndian.{number_back, length_bytes_of}
 use Rattle.faults.specs.declared.section.Section.TheVariants.{Deposits, Events}
 use Rattle.faults.specs.declared.file.FileFault.{FileFault}
 use Rattle.faults.specs.declared.file.FileFault.TheVariants.{Record}
 use Rattle.sessions.specs.Layout.{header_of, count, place}
 use Rattle.sessions.specs.Reading.{opened, next, numbered, deposit_at, event_at, of_number}
-use Rattle.session_writer.specs.Writing.{written, Room, rows_fit, room_for, session_fits, session_bytes, session_put}
+use Rattle.session_writer.specs.Writing.{written, Room, rows_fit, session_fits, session_bytes, session_put}
 use Rattle.session_writer.specs.RoundTrip.{Kept, AllKept, SessionIn}
 use Rattle.session_writer.proofs.Layouts.{header_opens, deposit_count, event_count, deposit_start, event_start}
 use Rattle.sessions.proofs.Records.{record_read}
@@ -24,27 +23,18 @@ module _ (vs : List EventValue) (i : ℕ) (h : i < length vs) (v : EventValue) (
   rows_next : rows_fit (i + 1) (drop i vs) ≡ cond (row_fits v) (rows_fit (i + 1 + 1) (drop (i + 1) vs)) (Err (Record (i + 1) RowLength))
   rows_next = ap (λ l. rows_fit (i + 1) l) (drop_more vs i close h) ∙ ap (λ x. cond (row_fits x) (rows_fit (i + 1 + 1) (drop (i + 1) vs)) (Err (Record (i + 1) RowLength))) e
 
-  pub rows_stop : (f : RecordFault) → (row_fits v ≡ false) × (f ≡ RowLength) → rows_fit (i + 1) (drop i vs) ≡ rows_fit 1 vs → Err (Record (i + 1) f) ≡ rows_fit 1 vs
+  pub rows_stop : (f : FileFault) → (row_fits v ≡ false) × (f ≡ Record (i + 1) RowLength) → rows_fit (i + 1) (drop i vs) ≡ rows_fit 1 vs → Err f ≡ rows_fit 1 vs
   rows_stop f p q = rw p.1 (sym (rw p.0 at rows_next) ∙ q)
 
-  pub rows_pass : row_fits v ≡ true → rows_fit (i + 1) (drop i vs) ≡ rows_fit 1 vs → rows_fit (i + 1 + 1) (drop (i + 1) vs) ≡ rows_fit 1 vs
-  rows_pass p q = sym (rw p at rows_next) ∙ q
-
-  pub kept_more : (bs : List ℕ) → row_fits v ≡ true → Keeps bs v → ((k : ℕ) → k < i → Kept (get_or vs k close)) → (k : ℕ) → k < i + 1 → Kept (get_or vs k close)
-  kept_more bs r p q = below_more (λ k. Kept (get_or vs k close)) i q (subst (λ (x : EventValue). Kept x) (sym e) (r, subst (λ (l : List ℕ). Keeps l v) p.bytes p))
+  pub rows_pass : Kept v → (rows_fit (i + 1) (drop i vs) ≡ rows_fit 1 vs) × ((k : ℕ) → k < i → Kept (get_or vs k close)) → (rows_fit (i + 1 + 1) (drop (i + 1) vs) ≡ rows_fit 1 vs) × ((k : ℕ) → k < i + 1 → Kept (get_or vs k close))
+  rows_pass p q =
+      (sym (rw p.0 at rows_next) ∙ q.0, below_more (λ k. Kept (get_or vs k close)) i q.1 (subst (λ (x : EventValue). Kept x) (sym e) p))
 
 pub even_deposits : (ds : List ℕ) → Even (bytes_of 4) 4 0 ds
 even_deposits ds k h = length_bytes_of 4 (get_or ds k 0)
 
 pub even_events : (vs : List EventValue) → AllKept vs → Even encoded 16 close vs
 even_events vs kept k h = (kept k h).1.long
-
--- an event that can be kept is not refused
-pub kept_fits : (vs : List EventValue) (i : ℕ) (v : EventValue) → AllKept vs → i < length vs → get_or vs i close ≡ v → row_fits v ≡ false → ⊥
-kept_fits vs i v kept h e f =
-    let z : true ≡ false = sym (kept i h).0 ∙ ap row_fits e ∙ f in
-    let zero_one : ◌≡◌ {A = ℕ} 0 1 = cc in
-    omega arith
 
 counted : (k many : ℕ) → k < many → numbered (k + 1) many ≡ true
 counted k many h = grind (arith, nat_tests)
@@ -113,16 +103,8 @@ module _ (ds : List ℕ) (vs : List EventValue) (rest : List ℕ) (few : length 
   pub session_in : SessionIn (session_bytes ds vs ++ rest) ds vs
   session_in = record { opens = opens; deposits = deposits; events = events; all_deposits = deposits_back; all_events = events_back }
 
--- the tests of a session, in their order
-module _ (size c n : ℕ) (vs : List EventValue) (count : length vs ≡ n) where
-  pub room_refused : (f : FileFault) → Err f ≡ room_for size c n → Err f ≡ session_fits size c vs
-  room_refused f h = rw count (ap (λ r. next r (λ _. rows_fit 1 vs)) h)
-
-  pub rows_decide : (r : Result (Unit {0}) FileFault) → Ok tt ≡ room_for size c n → r ≡ rows_fit 1 vs → r ≡ session_fits size c vs
-  rows_decide r h q = rw count (q ∙ ap (λ a. next a (λ _. rows_fit 1 vs)) h)
-
 -- header, deposits and events, written one behind the other
-pub session_is_put : (ms top mid new ds : List ℕ) (vs : List EventValue) → Ok tt ≡ session_fits (length ms) (length ds) vs → Room (length ms) (length ds) (length vs) → ((k : ℕ) → get_or ds k 0 < 2 ^ 32) → AllKept vs → top ≡ written ms 0 (header_of (length ds) (length vs)) → mid ≡ written top 16 (flat_map (bytes_of 4) ds) → new ≡ written mid (16 + 4 * length ds) (flat_map encoded vs) → (session_put ms ds vs ≡ Ok new) × SessionIn new ds vs
+pub session_is_put : (ms top mid new ds : List ℕ) (vs : List EventValue) → session_fits (length ms) (length ds) vs ≡ Ok tt → Room (length ms) (length ds) (length vs) → ((k : ℕ) → get_or ds k 0 < 2 ^ 32) → AllKept vs → top ≡ written ms 0 (header_of (length ds) (length vs)) → mid ≡ written top 16 (flat_map (bytes_of 4) ds) → new ≡ written mid (16 + 4 * length ds) (flat_map encoded vs) → (session_put ms ds vs ≡ Ok new) × SessionIn new ds vs
 session_is_put ms top mid new ds vs fits room small kept a b c =
     let d = length_joined (bytes_of 4) 4 0 ds (even_deposits ds) in
     let e = length_joined encoded 16 close vs (even_events vs kept) in
@@ -131,4 +113,4 @@ session_is_put ms top mid new ds vs fits room small kept a b c =
     let front : mid ≡ written ms 0 (h ++ flat_map (bytes_of 4) ds) = b ∙ ap (λ m. written m 16 (flat_map (bytes_of 4) ds)) a ∙ written_more ms 0 h (flat_map (bytes_of 4) ds) (omega (arith, room.fits)) in
     let at : 16 + 4 * length ds ≡ 0 + length (h ++ flat_map (bytes_of 4) ds) = omega arith in
     let whole : new ≡ written ms 0 (session_bytes ds vs) = c ∙ ap (λ m. written m (16 + 4 * length ds) (flat_map encoded vs)) front ∙ ap (λ z. written (written ms 0 (h ++ flat_map (bytes_of 4) ds)) z (flat_map encoded vs)) at ∙ written_more ms 0 (h ++ flat_map (bytes_of 4) ds) (flat_map encoded vs) (omega (arith, room.fits)) in
-    (ap (λ r. next r (λ _. Ok (written ms 0 (session_bytes ds vs)))) (sym fits) ∙ ap Ok (sym whole), subst (λ (l : List ℕ). SessionIn l ds vs) (sym whole) (session_in ds vs _ room.deposits room.events small kept))
+    (ap (λ r. next r (λ _. Ok (written ms 0 (session_bytes ds vs)))) fits ∙ ap Ok (sym whole), subst (λ (l : List ℕ). SessionIn l ds vs) (sym whole) (session_in ds vs _ room.deposits room.events small kept))
