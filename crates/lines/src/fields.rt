@@ -44,6 +44,7 @@ pub(crate) fn read_fields<const N: usize>(
 {
     let mut numbers = [0; N];
     let mut left = text;
+    // By index: a refusal tells the field's number.
     for (i, most) in limits.iter().enumerate() {
         let (word, after) = split_word(left);
         numbers[i] = number(word, i as u8 + 1, *most)?;

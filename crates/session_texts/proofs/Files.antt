@@ -1,5 +1,5 @@
 -- The file of deposits and events whose rows fit.
-use Rattle.std.proofs.Common.{◌≡◌, ℕ, ◌+◌, ◌*◌, ◌≤◌, true, List, [], ◌∷◌, ◌++◌, map, length, take, Ok, Err, Result, IsOk, sym, refl, ap, subst, ◌∙◌, arith}
+use Rattle.std.proofs.Common.{◌≡◌, ℕ, zero, suc, ◌+◌, ◌*◌, ◌≤◌, true, List, [], ◌∷◌, ◌++◌, map, length, take, Ok, Err, Result, IsOk, sym, refl, ap, subst, ◌∙◌, arith}
 use Rattle.std.proofs.lemmas.Bool.Decides.{nat_tests}
 use Rattle.std.specs.List.{flat_map, AllByRecursion}
 use Rattle.std.proofs.lemmas.List.{length-append, take_at, drop_all, append-nil}
@@ -10,6 +10,8 @@ use Rattle.records.specs.Event.{EventValue, value_of, opening, new_step, raise, 
 use Rattle.lines.specs.Record.{Record}
 use Rattle.sessions.specs.Layout.{size_of}
 use Rattle.sessions.specs.Reading.{next}
+use Rattle.session_writer.proofs.Sections.{Even, length_joined}
+use Rattle.session_writer.proofs.Wholes.{even_deposits}
 use Rattle.session_texts.specs.Records.{file_size, deposits_in, events_in, file_of}
 use Rattle.session_texts.proofs.Drafts.{size_counted}
 use Rattle.session_writer.specs.Writing.{written, room_for, rows_fit, session_bytes, session_put, Wrote}
@@ -24,22 +26,16 @@ encoded_long (raise a b s d t) h = refl
 encoded_long close h = refl
 encoded_long changeover h = refl
 
-length_events : (vs : List EventValue) → AllFit vs → length (flat_map encoded vs) ≡ 16 * length vs
-length_events [] h = refl
-length_events (e ∷ es) h =
-    let a = encoded_long e h.0 in
-    let b = length_events es h.1 in
-    length-append (encoded e) (flat_map encoded es) ∙ omega arith
-
-length_deposits : (ds : List ℕ) → length (flat_map (bytes_of 4) ds) ≡ 4 * length ds
-length_deposits [] = refl
-length_deposits (d ∷ ds) = let b = length_deposits ds in omega arith
+even_fit : (vs : List EventValue) → AllFit vs → Even encoded 16 close vs
+even_fit [] h k l = absurd (omega arith)
+even_fit (e ∷ es) h zero l = encoded_long e h.0
+even_fit (e ∷ es) h (suc k) l = even_fit es h.1 k (omega arith)
 
 pub length_session : (ds : List ℕ) (vs : List EventValue) → AllFit vs → length (session_bytes ds vs) ≡ size_of (length ds) (length vs)
 length_session ds vs h =
     let a = length-append (flat_map (bytes_of 4) ds) (flat_map encoded vs) in
-    let b = length_deposits ds in
-    let c = length_events vs h in
+    let b = length_joined (bytes_of 4) 4 0 ds (even_deposits ds) in
+    let c = length_joined encoded 16 close vs (even_fit vs h) in
     omega arith
 
 all_rows_fit : (n : ℕ) (vs : List EventValue) → AllFit vs → rows_fit n vs ≡ Ok tt

@@ -10,7 +10,7 @@ use std::error::Error;
 use std::fmt;
 
 /// What is wrong with a line, where it stands in its text.
-#[derive(Clone, Copy, Debug)]
+#[derive(Clone, Copy, PartialEq, Eq, Debug)]
 pub enum TextFault {
     /// The line can't be read.
     BadLine(LineFault),
@@ -43,7 +43,7 @@ impl From<LineFault> for TextFault {
 }
 
 /// Why no file was made.
-#[derive(Clone, Copy, Debug)]
+#[derive(Clone, Copy, PartialEq, Eq, Debug)]
 pub enum MakeFault {
     /// The line of this number, from 1, is at fault.
     Line(usize, TextFault),
