@@ -67,8 +67,11 @@ impl fmt::Display for Line {
         match self {
             Line::Deposit(dollars) => write!(f, "deposit {dollars}"),
             Line::Open(row) => {
-                let [i1, i2, i3, i4, i5, i6, i7] = steps_of(row);
-                write!(f, "open {i1} {i2} {i3} {i4} {i5} {i6} {i7}")
+                write!(f, "open")?;
+                for step in steps_of(row) {
+                    write!(f, " {step}")?;
+                }
+                Ok(())
             }
             Line::NewStep(
                 NewStep {
