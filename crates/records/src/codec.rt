@@ -17,10 +17,11 @@ fn all_zero(bytes: &[u8]) -> bool
 }
 
 /// The event that these bytes keep.
-pub fn decode<'a>(record: &'a [u8; 16]) -> Result<Event<'a>, RecordFault>
+pub fn decode(record: &[u8; 16]) -> Result<Event<'_>, RecordFault>
     ensures { seen result ≡ decoded «record».now }
 {
     let discount = u16::from_be_bytes([record[6], record[7]]);
+    // That there are eight bytes is proved: `unwrap` tests nothing.
     let stamp = u64::from_be_bytes(*record.last_chunk().unwrap());
     match Kind::try_from(record[0])? {
         Kind::Open if record[1] == 0 => Ok(Event::Open(&record[2..])),

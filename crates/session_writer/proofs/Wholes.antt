@@ -41,63 +41,70 @@ counted k many h = grind (arith, nat_tests)
 
 -- the file of these deposits and events, with anything behind it, gives them back
 module _ (ds : List ℕ) (vs : List EventValue) (rest : List ℕ) (few : length ds < 65536) (few' : length vs < 65536) (small : (k : ℕ) → get_or ds k 0 < 2 ^ 32) (kept : AllKept vs) where
+  -- what stands behind the header
+  abbrev tail : List ℕ
+  tail = (flat_map (bytes_of 4) ds ++ flat_map encoded vs) ++ rest
+
+  abbrev file : List ℕ
+  file = session_bytes ds vs ++ rest
+
   deposit_bytes : length (flat_map (bytes_of 4) ds) ≡ 4 * length ds
   deposit_bytes = length_joined (bytes_of 4) 4 0 ds (even_deposits ds)
 
   event_bytes : length (flat_map encoded vs) ≡ 16 * length vs
   event_bytes = length_joined encoded 16 close vs (even_events vs kept)
 
-  -- behind the header: the deposits, the events, and the rest
-  behind : (flat_map (bytes_of 4) ds ++ flat_map encoded vs) ++ rest ≡ flat_map (bytes_of 4) ds ++ (flat_map encoded vs ++ rest)
+  -- it is the deposits, the events, and the rest
+  behind : tail ≡ flat_map (bytes_of 4) ds ++ (flat_map encoded vs ++ rest)
   behind = append_assoc (flat_map (bytes_of 4) ds) (flat_map encoded vs) rest
 
-  opens : opened (session_bytes ds vs ++ rest) ≡ Ok tt
+  opens : opened file ≡ Ok tt
   opens =
       let size = length-append (flat_map (bytes_of 4) ds ++ flat_map encoded vs) rest in
       let sum = length-append (flat_map (bytes_of 4) ds) (flat_map encoded vs) in
       let a = deposit_bytes in
       let b = event_bytes in
-      header_opens (length ds) (length vs) ((flat_map (bytes_of 4) ds ++ flat_map encoded vs) ++ rest) few few' (omega arith)
+      header_opens (length ds) (length vs) tail few few' (omega arith)
 
-  deposits : count Deposits (session_bytes ds vs ++ rest) ≡ length ds
-  deposits = deposit_count (length ds) (length vs) ((flat_map (bytes_of 4) ds ++ flat_map encoded vs) ++ rest) few few'
+  deposits : count Deposits file ≡ length ds
+  deposits = deposit_count (length ds) (length vs) tail few few'
 
-  events : count Events (session_bytes ds vs ++ rest) ≡ length vs
-  events = event_count (length ds) (length vs) ((flat_map (bytes_of 4) ds ++ flat_map encoded vs) ++ rest) few few'
+  events : count Events file ≡ length vs
+  events = event_count (length ds) (length vs) tail few few'
 
-  deposit_place : (k : ℕ) → place Deposits (session_bytes ds vs ++ rest) (k + 1) ≡ 16 + 4 * k
-  deposit_place k = let s = deposit_start (length ds) (length vs) ((flat_map (bytes_of 4) ds ++ flat_map encoded vs) ++ rest) few few' in ap (λ z. z + 4 * (k + 1 - 1)) s ∙ omega arith
+  deposit_place : (k : ℕ) → place Deposits file (k + 1) ≡ 16 + 4 * k
+  deposit_place k = let s = deposit_start (length ds) (length vs) tail few few' in ap (λ z. z + 4 * (k + 1 - 1)) s ∙ omega arith
 
-  event_place : (k : ℕ) → place Events (session_bytes ds vs ++ rest) (k + 1) ≡ 16 + (4 * length ds + 16 * k)
-  event_place k = let s = event_start (length ds) (length vs) ((flat_map (bytes_of 4) ds ++ flat_map encoded vs) ++ rest) few few' in ap (λ z. z + 16 * (k + 1 - 1)) s ∙ omega arith
+  event_place : (k : ℕ) → place Events file (k + 1) ≡ 16 + (4 * length ds + 16 * k)
+  event_place k = let s = event_start (length ds) (length vs) tail few few' in ap (λ z. z + 16 * (k + 1 - 1)) s ∙ omega arith
 
-  deposit_record : (k : ℕ) → k < length ds → between (16 + 4 * k) (16 + 4 * k + 4) (session_bytes ds vs ++ rest) ≡ bytes_of 4 (get_or ds k 0)
+  deposit_record : (k : ℕ) → k < length ds → between (16 + 4 * k) (16 + 4 * k + 4) file ≡ bytes_of 4 (get_or ds k 0)
   deposit_record k h =
       let a = deposit_bytes in
-      ap (λ z. between (16 + 4 * k) z (session_bytes ds vs ++ rest)) (add_assoc 16 (4 * k) 4)
-      ∙ between_behind (header_of (length ds) (length vs)) ((flat_map (bytes_of 4) ds ++ flat_map encoded vs) ++ rest) 16 (4 * k) (4 * k + 4) refl
+      ap (λ z. between (16 + 4 * k) z file) (add_assoc 16 (4 * k) 4)
+      ∙ between_behind (header_of (length ds) (length vs)) tail 16 (4 * k) (4 * k + 4) refl
       ∙ ap (λ l. between (4 * k) (4 * k + 4) l) behind
       ∙ between_front (flat_map (bytes_of 4) ds) (flat_map encoded vs ++ rest) (4 * k) (4 * k + 4) (omega arith) (omega arith)
       ∙ joined_part (bytes_of 4) 4 0 ds (even_deposits ds) k h
 
-  event_record : (k : ℕ) → k < length vs → between (16 + (4 * length ds + 16 * k)) (16 + (4 * length ds + 16 * k) + 16) (session_bytes ds vs ++ rest) ≡ encoded (get_or vs k close)
+  event_record : (k : ℕ) → k < length vs → between (16 + (4 * length ds + 16 * k)) (16 + (4 * length ds + 16 * k) + 16) file ≡ encoded (get_or vs k close)
   event_record k h =
       let b = event_bytes in
-      ap (λ z. between (16 + (4 * length ds + 16 * k)) z (session_bytes ds vs ++ rest)) (omega arith)
-      ∙ between_behind (header_of (length ds) (length vs)) ((flat_map (bytes_of 4) ds ++ flat_map encoded vs) ++ rest) 16 (4 * length ds + 16 * k) (4 * length ds + (16 * k + 16)) refl
+      ap (λ z. between (16 + (4 * length ds + 16 * k)) z file) (omega arith)
+      ∙ between_behind (header_of (length ds) (length vs)) tail 16 (4 * length ds + 16 * k) (4 * length ds + (16 * k + 16)) refl
       ∙ ap (λ l. between (4 * length ds + 16 * k) (4 * length ds + (16 * k + 16)) l) behind
       ∙ between_behind (flat_map (bytes_of 4) ds) (flat_map encoded vs ++ rest) (4 * length ds) (16 * k) (16 * k + 16) deposit_bytes
       ∙ between_front (flat_map encoded vs) rest (16 * k) (16 * k + 16) (omega arith) (omega arith)
       ∙ joined_part encoded 16 close vs (even_events vs kept) k h
 
-  deposits_back : (k : ℕ) → k < length ds → deposit_at (session_bytes ds vs ++ rest) (k + 1) ≡ Ok (get_or ds k 0)
+  deposits_back : (k : ℕ) → k < length ds → deposit_at file (k + 1) ≡ Ok (get_or ds k 0)
   deposits_back k h =
-      ap (λ r. next r (λ bs. Ok (be 4 bs 0))) (record_read Deposits (session_bytes ds vs ++ rest) (k + 1) (16 + 4 * k) _ opens (ap (λ c. numbered (k + 1) c) deposits ∙ counted k (length ds) h) (deposit_place k) (deposit_record k h))
+      ap (λ r. next r (λ bs. Ok (be 4 bs 0))) (record_read Deposits file (k + 1) (16 + 4 * k) _ opens (ap (λ c. numbered (k + 1) c) deposits ∙ counted k (length ds) h) (deposit_place k) (deposit_record k h))
       ∙ ap Ok (number_back 4 (get_or ds k 0) (small k))
 
-  events_back : (k : ℕ) → k < length vs → event_at (session_bytes ds vs ++ rest) (k + 1) ≡ Ok (get_or vs k close)
+  events_back : (k : ℕ) → k < length vs → event_at file (k + 1) ≡ Ok (get_or vs k close)
   events_back k h =
-      ap (λ r. next r (λ bs. of_number (k + 1) (decoded bs))) (record_read Events (session_bytes ds vs ++ rest) (k + 1) (16 + (4 * length ds + 16 * k)) _ opens (ap (λ c. numbered (k + 1) c) events ∙ counted k (length vs) h) (event_place k) (event_record k h))
+      ap (λ r. next r (λ bs. of_number (k + 1) (decoded bs))) (record_read Events file (k + 1) (16 + (4 * length ds + 16 * k)) _ opens (ap (λ c. numbered (k + 1) c) events ∙ counted k (length vs) h) (event_place k) (event_record k h))
       ∙ ap (of_number (k + 1)) (kept k h).1.back
 
   pub session_in : SessionIn (session_bytes ds vs ++ rest) ds vs

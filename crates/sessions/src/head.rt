@@ -19,7 +19,7 @@ fn record_width(section: Section) -> usize
     }
 }
 
-/// The 16 bytes that a file begins with.
+/// The 16 bytes that a file begins with. Each `unwrap` below is proved to find its bytes, and tests nothing.
 #[derive(Clone, Copy)]
 pub(crate) struct Header {
     pub(crate) bytes: [u8; 16],

@@ -9,7 +9,7 @@ use faults::{FileFault, Section};
 use records::{Event, decode};
 
 // The event that these bytes keep; its refusal tells the number of the event.
-fn event_in<'a>(record: &'a [u8; 16], number: usize) -> Result<Event<'a>, FileFault>
+fn event_in(record: &[u8; 16], number: usize) -> Result<Event<'_>, FileFault>
     ensures { seen result ≡ of_number number (decoded «record».now) }
 {
     decode(record).map_err(|fault| FileFault::Record(number, fault))
