@@ -1,3 +1,4 @@
+//! Lines shown and parsed back, each field at its edge, and the first fault of a line.
 use crate::fault::LineFault;
 use crate::line::Line;
 use crate::parse::parse_line;

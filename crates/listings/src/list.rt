@@ -1,10 +1,10 @@
 //! Lists a session file: one line for each record.
-ghost use Rattle.std.specs.Prelude.{◌≡◌, ◌++◌, IfOk, string_bytes, OnOk};
+ghost use Rattle.std.specs.Prelude.{◌≡◌, ◌++◌, IfOk, string_bytes};
 ghost use Rattle.faults.specs.declared.section.Section.TheVariants.{Deposits, Events};
 ghost use Rattle.lines.specs.Record.{kept_as};
 ghost use Rattle.sessions.specs.Lent.{lent};
 ghost use Rattle.listings.specs.Texts.{ended_line};
-ghost use Rattle.listings.specs.Listed.{section_name, record_in, record_line, line_or, section_lines, refusal_text, refusal_line, listed};
+ghost use Rattle.listings.specs.Listed.{section_name, record_in, record_line, section_lines, refusal_line, listed};
 
 use faults::{FileFault, Section};
 use lines::Line;
