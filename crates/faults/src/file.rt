@@ -35,6 +35,7 @@ impl FileFault {
     pub fn number(self) -> u8
         ensures { result ≡ fault_number self }
     {
+        // By `match`, since `as` takes only an enum without fields.
         match self {
             FileFault::Short(_) => 28,
             FileFault::Letters => 29,

@@ -6,11 +6,11 @@ ghost use Rattle.faults.specs.Records.{record_number};
 #[derive(Clone, Copy, PartialEq, Eq, Debug)]
 pub enum RecordFault {
     /// An opening's row does not have 14 bytes.
-    RowLength,
+    RowLength = 9,
     /// The event's kind is unknown.
-    UnknownKind,
+    UnknownKind = 33,
     /// A byte that must be zero is not.
-    NotZero,
+    NotZero = 34,
 }
 
 impl RecordFault {
@@ -18,10 +18,6 @@ impl RecordFault {
     pub fn number(self) -> u8
         ensures { result ≡ record_number self }
     {
-        match self {
-            RecordFault::RowLength => 9,
-            RecordFault::UnknownKind => 33,
-            RecordFault::NotZero => 34,
-        }
+        self as u8
     }
 }

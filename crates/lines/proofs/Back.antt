@@ -159,15 +159,6 @@ word_runs_on (event changeover) = search rules
 pub no_newline : (r : Record) → Fits r → OneLine (shown_record r)
 no_newline r h = All-append (λ b. b ≡ 10 → ⊥) (first_word r) (listed (numbers_of r)) (word_runs_on r) (listed_runs_on (limits_of r) (numbers_of r) (numbers_room r h))
 
--- and something is shown of every record
-pub not_empty : (r : Record) → 0 < length (shown_record r)
-not_empty (deposit dollars) = omega arith
-not_empty (event (opening row)) = omega arith
-not_empty (event (new_step seat market shares discount stamp)) = omega arith
-not_empty (event (raise seat shares step discount stamp)) = omega arith
-not_empty (event close) = omega arith
-not_empty (event changeover) = omega arith
-
 -- all of it at once
 pub written : (r : Record) → Fits r → Written (shown_record r) r
 written r h = record { text = refl; stays = no_newline r h; back = line_back r h }

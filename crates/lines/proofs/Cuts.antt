@@ -1,46 +1,44 @@
 -- Where the blanks in front of a text end, and where its first word does.
-use Rattle.std.proofs.Common.{◌≡◌, ℕ, ◌+◌, ◌<◌, ◌≤◌, Bool, true, false, cond, List, [], ◌∷◌, length, get_or, take, drop, refl, ap, arith}
-use Rattle.std.proofs.lemmas.List.{drop_more}
+use Rattle.std.proofs.Common.{◌≡◌, ℕ, suc, ◌+◌, Bool, true, false, not, cond, ltb, Some, None, List, [], ◌∷◌, length, take, drop, refl, ap, arith}
+use Rattle.std.specs.Option.{unwrap_or}
+use Rattle.std.specs.List.{position, position_or_len}
+use Rattle.std.proofs.lemmas.Bool.Decides.{nat_tests}
+use Rattle.std.proofs.lemmas.List.Sums.{prefix_len-le-length}
 use Rattle.lines.specs.Words.{blank, skip, front, back}
 
-module _ (bs : List ℕ) (i : ℕ) (h : i < length bs) where
-  -- a blank more is skipped
-  pub skip_on : blank (get_or bs i 0) ≡ true → skip (drop i bs) ≡ skip (drop (i + 1) bs)
-  skip_on e = rw (drop_more bs i 0 h, e)
+-- the first place at which a test passes, or the length where it never does
+pub found_or_len : (p : ℕ → Bool) (bs : List ℕ) → unwrap_or (position p bs) (length bs) ≡ position_or_len p bs
+found_or_len p bs = go (ltb (position_or_len p bs) (length bs)) refl
+  where
+    go : (t : Bool) → ltb (position_or_len p bs) (length bs) ≡ t → unwrap_or (cond t (Some (position_or_len p bs)) None) (length bs) ≡ position_or_len p bs
+    go true e = refl
+    go false e = let h = prefix_len-le-length (λ b. not (p b)) bs in grind (arith, nat_tests)
 
-  -- and nothing else is
-  pub skip_stops : blank (get_or bs i 0) ≡ false → skip (drop i bs) ≡ drop i bs
-  skip_stops e = rw (drop_more bs i 0 h, e)
+one_more : (n : ℕ) → 1 + n ≡ suc n
+one_more n = omega arith
 
-  -- a byte more belongs to the word
-  pub word_on : blank (get_or bs i 0) ≡ false → length (front (drop i bs)) ≡ 1 + length (front (drop (i + 1) bs))
-  word_on e = rw (drop_more bs i 0 h, e) (omega arith)
-
-  -- and a blank ends it
-  pub word_stops : blank (get_or bs i 0) ≡ true → length (front (drop i bs)) ≡ 0
-  word_stops e = rw (drop_more bs i 0 h, e)
+-- the blanks in front are skipped
+pub skip_is : (bs : List ℕ) → skip bs ≡ drop (position_or_len (λ b. not (blank b)) bs) bs
+skip_is [] = refl
+skip_is (b ∷ bs) = go (blank b) (skip_is bs)
+  where
+    go : (t : Bool) → skip bs ≡ drop (position_or_len (λ x. not (blank x)) bs) bs → cond t (skip bs) (b ∷ bs) ≡ drop (cond (not (not t)) (1 + position_or_len (λ x. not (blank x)) bs) 0) (b ∷ bs)
+    go true h = rw one_more h
+    go false h = refl
 
 -- a text is its first word and what follows: one byte in front, by whether it is blank
-take_front_by : (b : ℕ) (bs : List ℕ) (t : Bool) → take (length (front bs)) bs ≡ front bs → take (length (cond t [] (b ∷ front bs))) (b ∷ bs) ≡ cond t [] (b ∷ front bs)
-take_front_by b bs true h = refl
-take_front_by b bs false h = ap (λ (l : List ℕ). b ∷ l) h
+pub front_is : (bs : List ℕ) → front bs ≡ take (position_or_len blank bs) bs
+front_is [] = refl
+front_is (b ∷ bs) = go (blank b) (front_is bs)
+  where
+    go : (t : Bool) → front bs ≡ take (position_or_len blank bs) bs → cond t [] (b ∷ front bs) ≡ take (cond (not t) (1 + position_or_len blank bs) 0) (b ∷ bs)
+    go true h = refl
+    go false h = rw one_more (ap (λ (l : List ℕ). b ∷ l) h)
 
-pub take_front : (bs : List ℕ) → take (length (front bs)) bs ≡ front bs
-take_front [] = refl
-take_front (b ∷ bs) = take_front_by b bs (blank b) (take_front bs)
-
-drop_front_by : (b : ℕ) (bs : List ℕ) (t : Bool) → drop (length (front bs)) bs ≡ back bs → drop (length (cond t [] (b ∷ front bs))) (b ∷ bs) ≡ cond t (b ∷ bs) (back bs)
-drop_front_by b bs true h = refl
-drop_front_by b bs false h = h
-
-pub drop_front : (bs : List ℕ) → drop (length (front bs)) bs ≡ back bs
-drop_front [] = refl
-drop_front (b ∷ bs) = drop_front_by b bs (blank b) (drop_front bs)
-
-within_by : (b : ℕ) (bs : List ℕ) (t : Bool) → length (front bs) ≤ length bs → length (cond t [] (b ∷ front bs)) ≤ length (b ∷ bs)
-within_by b bs true h = omega arith
-within_by b bs false h = omega arith
-
-pub front_within : (bs : List ℕ) → length (front bs) ≤ length bs
-front_within [] = omega arith
-front_within (b ∷ bs) = within_by b bs (blank b) (front_within bs)
+pub back_is : (bs : List ℕ) → back bs ≡ drop (position_or_len blank bs) bs
+back_is [] = refl
+back_is (b ∷ bs) = go (blank b) (back_is bs)
+  where
+    go : (t : Bool) → back bs ≡ drop (position_or_len blank bs) bs → cond t (b ∷ bs) (back bs) ≡ drop (cond (not t) (1 + position_or_len blank bs) 0) (b ∷ bs)
+    go true h = refl
+    go false h = rw one_more h

@@ -1,5 +1,5 @@
 pub mod Cuts
 pub mod Figures
-pub mod Onward
 pub mod Pairs
 pub mod Back
+pub mod Arrays

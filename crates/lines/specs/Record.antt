@@ -3,7 +3,7 @@ use Rattle.std.specs.Prelude.{ℕ, ◌^◌, ◌<◌, cond, length, Some, None, O
 use Rattle.std.specs.Option.{option_map}
 use Rattle.faults.specs.declared.record.RecordFault.{RecordFault}
 use Rattle.faults.specs.declared.record.RecordFault.TheVariants.{RowLength}
-use Rattle.records.specs.Event.{EventValue, opening, new_step, raise, close, changeover, Sized}
+use Rattle.records.specs.Event.{EventValue, opening, new_step, raise, close, changeover, value_of_new_step, value_of_raise, Sized}
 use Rattle.lines.specs.declared.line.Line.{Line}
 use Rattle.lines.specs.declared.line.Line.TheVariants.{Deposit, Open, NewStep, Raise, Close, Changeover}
 
@@ -16,8 +16,8 @@ pub data Record : Type 0 where
 abbrev pub record_of : Line → Record
 record_of (Deposit dollars) = deposit dollars
 record_of (Open row) = event (opening row)
-record_of (NewStep seat market shares discount stamp) = event (new_step seat market shares discount stamp)
-record_of (Raise seat shares step discount stamp) = event (raise seat shares step discount stamp)
+record_of (NewStep step) = event (value_of_new_step step)
+record_of (Raise offer) = event (value_of_raise offer)
 record_of Close = event close
 record_of Changeover = event changeover
 

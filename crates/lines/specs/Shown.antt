@@ -1,6 +1,6 @@
 -- How a line is written: words with one space between.
 use Rattle.std.specs.Prelude.{◌≡◌, ℕ, List, [], ◌∷◌, ◌++◌, Some, Ok, codes, decimal, ◌≢◌}
-use Rattle.std.specs.List.{AllByRecursion}
+use Rattle.std.specs.List.{AllByRecursion, flat_map}
 use Rattle.records.specs.Event.{opening, new_step, raise, close, changeover}
 use Rattle.lines.specs.Record.{Record, deposit, event}
 use Rattle.lines.specs.Row.{increments}
@@ -26,8 +26,7 @@ numbers_of (event changeover) = []
 
 -- numbers, each behind a space
 abbrev pub listed : List ℕ → List ℕ
-listed [] = []
-listed (n ∷ ns) = 32 ∷ (decimal n ++ listed ns)
+listed ns = flat_map (λ n. 32 ∷ decimal n) ns
 
 -- the text of a line
 abbrev pub shown_record : Record → List ℕ

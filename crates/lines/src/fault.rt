@@ -2,6 +2,7 @@
 ghost use Rattle.std.specs.Prelude.{Some};
 ghost use Rattle.lines.specs.Fault.{shown_fault};
 
+use std::error::Error;
 use std::fmt;
 
 /// A refusal of one line. Fields are counted from 1, the word in front not among them.
@@ -32,3 +33,5 @@ impl fmt::Display for LineFault {
         }
     }
 }
+
+impl Error for LineFault {}

@@ -1,6 +1,7 @@
 //! The numbers that follow a line's first word.
-ghost use Rattle.std.specs.Prelude.{◌≡◌, ◌<◌, IfOk};
-ghost use Rattle.std.specs.Str.{all_ascii_digits};
+ghost use Rattle.std.specs.Prelude.{◌≡◌, ◌<◌, ◌≤◌, IfOk};
+ghost use Rattle.std.specs.Char.{is_ascii_digit};
+ghost use Rattle.std.specs.List.{list_all};
 ghost use Rattle.lines.specs.Fields.{number_in, fields, Under};
 
 use crate::fault::LineFault;
@@ -9,19 +10,15 @@ use std::str;
 
 // Whether the word is digits alone.
 fn all_digits(word: &[u8]) -> bool
-    ensures { result ≡ all_ascii_digits word.now }
+    ensures { result ≡ list_all is_ascii_digit word.now }
 {
-    for byte in word {
-        if !byte.is_ascii_digit() {
-            return false;
-        }
-    }
-    true
+    word.iter().all(u8::is_ascii_digit)
 }
 
 // The number that a word writes in this field, which holds `most` at most.
 fn number(word: &[u8], field: u8, most: u64) -> Result<u64, LineFault>
-    ensures { result ≡ number_in most field word.now }
+    ensures read { result ≡ number_in most field word.now }
+    ensures within { IfOk result (λ n. n ≤ most) }
 {
     if word.is_empty() {
         return Err(LineFault::Missing(field));
@@ -30,10 +27,7 @@ fn number(word: &[u8], field: u8, most: u64) -> Result<u64, LineFault>
     if !all_digits(word) {
         return Err(LineFault::NotANumber(field));
     }
-    let Ok(digits) = str::from_utf8(word) else {
-        return Err(LineFault::NotANumber(field));
-    };
-    match digits.parse::<u64>() {
+    match str::from_utf8(word).unwrap().parse::<u64>() {
         Ok(number) if number <= most => Ok(number),
         _ => Err(LineFault::TooLarge(field, most)),
     }
@@ -50,9 +44,10 @@ pub(crate) fn read_fields<const N: usize>(
 {
     let mut numbers = [0; N];
     let mut left = text;
-    for i in 0..N {
+    // By index: a refusal tells the field's number.
+    for (i, most) in limits.iter().enumerate() {
         let (word, after) = split_word(left);
-        numbers[i] = number(word, i as u8 + 1, limits[i])?;
+        numbers[i] = number(word, i as u8 + 1, *most)?;
         left = after;
     }
     if skip_blanks(left).is_empty() {

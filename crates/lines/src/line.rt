@@ -7,32 +7,21 @@ ghost use Rattle.lines.specs.Shown.{shown_record};
 
 use crate::row::steps_of;
 use faults::RecordFault;
+use offers::{NewStep, Raise};
 use records::Event;
 use std::fmt;
 
 /// One line of a session's text.
-#[derive(Clone, Copy, PartialEq, Debug)]
+#[derive(Clone, Copy, PartialEq, Eq, Debug)]
 pub enum Line {
     /// A deposit, in dollars.
     Deposit(u32),
     /// An opening: seven increments of two bytes each, the higher byte first, as a file keeps them.
     Open([u8; 14]),
     /// A seat enters a new step.
-    NewStep {
-        seat: u8,
-        market: u8,
-        shares: u8,
-        discount: u16,
-        stamp: u64,
-    },
+    NewStep(NewStep),
     /// A seat raises one of its steps.
-    Raise {
-        seat: u8,
-        shares: u8,
-        step: u16,
-        discount: u16,
-        stamp: u64,
-    },
+    Raise(Raise),
     Close,
     Changeover,
 }
@@ -46,75 +35,28 @@ impl Line {
         match self {
             Line::Deposit(_) => None,
             Line::Open(row) => Some(Event::Open(row)),
-            Line::NewStep {
-                seat,
-                market,
-                shares,
-                discount,
-                stamp,
-            } => Some(Event::NewStep {
-                seat: *seat,
-                market: *market,
-                shares: *shares,
-                discount: *discount,
-                stamp: *stamp,
-            }),
-            Line::Raise {
-                seat,
-                shares,
-                step,
-                discount,
-                stamp,
-            } => Some(Event::Raise {
-                seat: *seat,
-                shares: *shares,
-                step: *step,
-                discount: *discount,
-                stamp: *stamp,
-            }),
+            Line::NewStep(step) => Some(Event::NewStep(*step)),
+            Line::Raise(raise) => Some(Event::Raise(*raise)),
             Line::Close => Some(Event::Close),
             Line::Changeover => Some(Event::Changeover),
         }
     }
+}
 
-    /// The line that says this event, unless it is an opening whose row isn't 14 bytes.
-    pub fn of_event(event: Event) -> Result<Line, RecordFault>
-        ensures { kept_as result ≡ line_of (value_of event.entry) }
-    {
-        match event {
-            Event::Open(row) => match <[u8; 14]>::try_from(row) {
-                Ok(row) => Ok(Line::Open(row)),
-                Err(_) => Err(RecordFault::RowLength),
-            },
-            Event::NewStep {
-                seat,
-                market,
-                shares,
-                discount,
-                stamp,
-            } => Ok(Line::NewStep {
-                seat,
-                market,
-                shares,
-                discount,
-                stamp,
-            }),
-            Event::Raise {
-                seat,
-                shares,
-                step,
-                discount,
-                stamp,
-            } => Ok(Line::Raise {
-                seat,
-                shares,
-                step,
-                discount,
-                stamp,
-            }),
-            Event::Close => Ok(Line::Close),
-            Event::Changeover => Ok(Line::Changeover),
-        }
+/// The line that says an event, unless it is an opening whose row isn't 14 bytes.
+impl TryFrom<Event<'_>> for Line {
+    type Error = RecordFault;
+
+    ghost try_from_gives = { λ event r. kept_as r ≡ line_of (value_of event) };
+
+    fn try_from(event: Event<'_>) -> Result<Line, RecordFault> {
+        Ok(match event {
+            Event::Open(row) => Line::Open(row.try_into().map_err(|_| RecordFault::RowLength)?),
+            Event::NewStep(step) => Line::NewStep(step),
+            Event::Raise(raise) => Line::Raise(raise),
+            Event::Close => Line::Close,
+            Event::Changeover => Line::Changeover,
+        })
     }
 }
 
@@ -125,23 +67,30 @@ impl fmt::Display for Line {
         match self {
             Line::Deposit(dollars) => write!(f, "deposit {dollars}"),
             Line::Open(row) => {
-                let [i1, i2, i3, i4, i5, i6, i7] = steps_of(row);
-                write!(f, "open {i1} {i2} {i3} {i4} {i5} {i6} {i7}")
+                write!(f, "open")?;
+                for step in steps_of(row) {
+                    write!(f, " {step}")?;
+                }
+                Ok(())
             }
-            Line::NewStep {
-                seat,
-                market,
-                shares,
-                discount,
-                stamp,
-            } => write!(f, "enter {seat} {market} {shares} {discount} {stamp}"),
-            Line::Raise {
-                seat,
-                shares,
-                step,
-                discount,
-                stamp,
-            } => write!(f, "raise {seat} {step} {shares} {discount} {stamp}"),
+            Line::NewStep(
+                NewStep {
+                    seat,
+                    market,
+                    shares,
+                    discount,
+                    stamp,
+                },
+            ) => write!(f, "enter {seat} {market} {shares} {discount} {stamp}"),
+            Line::Raise(
+                Raise {
+                    seat,
+                    step,
+                    shares,
+                    discount,
+                    stamp,
+                },
+            ) => write!(f, "raise {seat} {step} {shares} {discount} {stamp}"),
             Line::Close => write!(f, "close"),
             Line::Changeover => write!(f, "changeover"),
         }

@@ -8,7 +8,8 @@ use crate::fault::LineFault;
 use crate::fields::read_fields;
 use crate::line::Line;
 use crate::row::row_of;
-use crate::words::{is_word, split_word};
+use crate::words::split_word;
+use offers::{NewStep, Raise};
 
 // The most that a field of so many bits holds.
 const MOST_8: u64 = u8::MAX as u64;
@@ -35,13 +36,13 @@ fn enter(text: &[u8]) -> Result<Line, LineFault>
         text,
         [MOST_8, MOST_8, MOST_8, MOST_16, MOST_64],
     )?;
-    Ok(Line::NewStep {
+    Ok(Line::NewStep(NewStep {
         seat: seat as u8,
         market: market as u8,
         shares: shares as u8,
         discount: discount as u16,
         stamp,
-    })
+    }))
 }
 
 // seven increments
@@ -60,13 +61,13 @@ fn raise(text: &[u8]) -> Result<Line, LineFault>
         text,
         [MOST_8, MOST_16, MOST_8, MOST_16, MOST_64],
     )?;
-    Ok(Line::Raise {
+    Ok(Line::Raise(Raise {
         seat: seat as u8,
-        shares: shares as u8,
         step: step as u16,
+        shares: shares as u8,
         discount: discount as u16,
         stamp,
-    })
+    }))
 }
 
 // A line that is one word alone.
@@ -81,20 +82,14 @@ fn bare(line: Line, text: &[u8]) -> Result<Line, LineFault>
 fn said_by(word: &[u8], text: &[u8]) -> Result<Line, LineFault>
     ensures { kept_as result ≡ said word.now text.now }
 {
-    if is_word(word, b"deposit") {
-        deposit(text)
-    } else if is_word(word, b"open") {
-        open(text)
-    } else if is_word(word, b"enter") {
-        enter(text)
-    } else if is_word(word, b"raise") {
-        raise(text)
-    } else if is_word(word, b"close") {
-        bare(Line::Close, text)
-    } else if is_word(word, b"changeover") {
-        bare(Line::Changeover, text)
-    } else {
-        Err(LineFault::UnknownWord)
+    match word {
+        b"deposit" => deposit(text),
+        b"open" => open(text),
+        b"enter" => enter(text),
+        b"raise" => raise(text),
+        b"close" => bare(Line::Close, text),
+        b"changeover" => bare(Line::Changeover, text),
+        _ => Err(LineFault::UnknownWord),
     }
 }
 
@@ -102,10 +97,7 @@ fn said_by(word: &[u8], text: &[u8]) -> Result<Line, LineFault>
 fn is_silent(word: &[u8]) -> bool
     ensures { result ≡ silent word.now }
 {
-    match word {
-        [] => true,
-        [first, ..] => *first == b'#',
-    }
+    matches!(word, [] | [b'#', ..])
 }
 
 /// What a line says. A blank line, or one whose first word begins with '#', says nothing.

@@ -1,20 +1,25 @@
 //! An opening's row: seven increments of two bytes each.
 ghost use Rattle.std.specs.Prelude.{◌≡◌};
-ghost use Rattle.lines.specs.Fields.{Under};
-ghost use Rattle.lines.specs.Parsed.{open_limits};
+ghost use Rattle.records.specs.Bytes.{bytes_of};
 ghost use Rattle.lines.specs.Row.{row_of, increments};
+
+use std::array;
+
+// The two lowest bytes of a number, the higher one first.
+fn low_bytes(number: u64) -> [u8; 2]
+    ensures { result ≡ bytes_of 2 number }
+{
+    let [.., high, low] = number.to_be_bytes();
+    [high, low]
+}
 
 /// The row that keeps these increments.
 pub(crate) fn row_of(steps: [u64; 7]) -> [u8; 14]
-    requires { Under open_limits steps }
     ensures { result ≡ row_of steps }
 {
+    let pairs = steps.map(low_bytes);
     let mut row = [0; 14];
-    for i in 0..7 {
-        let [high, low] = (steps[i] as u16).to_be_bytes();
-        row[2 * i] = high;
-        row[2 * i + 1] = low;
-    }
+    row.copy_from_slice(pairs.as_flattened());
     row
 }
 
@@ -22,9 +27,5 @@ pub(crate) fn row_of(steps: [u64; 7]) -> [u8; 14]
 pub(crate) fn steps_of(row: &[u8; 14]) -> [u16; 7]
     ensures { result ≡ increments row.now }
 {
-    let mut steps = [0; 7];
-    for i in 0..7 {
-        steps[i] = u16::from_be_bytes([row[2 * i], row[2 * i + 1]]);
-    }
-    steps
+    array::from_fn(|i| u16::from_be_bytes([row[2 * i], row[2 * i + 1]]))
 }

@@ -1,7 +1,9 @@
+//! Lines shown and parsed back, each field at its edge, and the first fault of a line.
 use crate::fault::LineFault;
 use crate::line::Line;
 use crate::parse::parse_line;
 use crate::text::line_text;
+use offers::{NewStep, Raise};
 use std::process::Abort;
 use std::test::Fail;
 
@@ -20,21 +22,21 @@ fn every_kind_of_line_is_shown_and_parsed(rt: HostRuntime) -> Result<(), Fail> {
         Line::Open([0, 1, 1, 0, 0, 0, 255, 255, 0, 5, 0, 6, 0, 7]),
         "open 1 256 0 65535 5 6 7",
     )?;
-    let entry = Line::NewStep {
+    let entry = Line::NewStep(NewStep {
         seat: 1,
         market: 2,
         shares: 3,
         discount: 4,
         stamp: 5,
-    };
+    });
     both_ways(&rt, entry, "enter 1 2 3 4 5")?;
-    let raise = Line::Raise {
+    let raise = Line::Raise(Raise {
         seat: 1,
-        shares: 3,
         step: 2,
+        shares: 3,
         discount: 4,
         stamp: 5,
-    };
+    });
     both_ways(&rt, raise, "raise 1 2 3 4 5")?;
     both_ways(&rt, Line::Close, "close")?;
     both_ways(&rt, Line::Changeover, "changeover")
@@ -58,13 +60,13 @@ fn a_blank_line_and_a_remark_say_nothing(rt: HostRuntime) {
 
 #[test]
 fn the_largest_number_of_each_field_passes(rt: HostRuntime) {
-    let entry = Line::NewStep {
+    let entry = Line::NewStep(NewStep {
         seat: 255,
         market: 255,
         shares: 255,
         discount: 65_535,
         stamp: u64::MAX,
-    };
+    });
     assert_eq!(rt;
         parse_line(b"enter 255 255 255 65535 18446744073709551615"),
         Ok(Some(entry))

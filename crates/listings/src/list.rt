@@ -1,10 +1,10 @@
 //! Lists a session file: one line for each record.
-ghost use Rattle.std.specs.Prelude.{◌≡◌, ◌++◌, IfOk, string_bytes, OnOk};
+ghost use Rattle.std.specs.Prelude.{◌≡◌, ◌++◌, IfOk, string_bytes};
 ghost use Rattle.faults.specs.declared.section.Section.TheVariants.{Deposits, Events};
 ghost use Rattle.lines.specs.Record.{kept_as};
 ghost use Rattle.sessions.specs.Lent.{lent};
 ghost use Rattle.listings.specs.Texts.{ended_line};
-ghost use Rattle.listings.specs.Listed.{section_name, record_in, record_line, line_or, section_lines, refusal_text, refusal_line, listed};
+ghost use Rattle.listings.specs.Listed.{section_name, record_in, record_line, section_lines, refusal_line, listed};
 
 use faults::{FileFault, Section};
 use lines::Line;
@@ -27,23 +27,22 @@ fn record_in(reader: &Reader, section: Section, number: usize) -> Result<Line, F
 {
     match section {
         Section::Deposits => Ok(Line::Deposit(reader.deposit(number)?)),
-        Section::Events => match Line::of_event(reader.event(number)?) {
-            Ok(line) => Ok(line),
-            Err(fault) => Err(FileFault::Record(number, fault)),
-        },
+        Section::Events => Line::try_from(reader.event(number)?).map_err(|fault| FileFault::Record(
+            number, fault,
+        )),
     }
 }
 
-// The line of a record, or the remark in its place.
-fn line_or_remark(
+// The line of the record of this number, or a remark in its place.
+fn record_line(
     heap: Global,
+    reader: &Reader,
     section: Section,
     number: usize,
-    record: Result<Line, FileFault>,
 ) -> Result<String, AllocError>
-    ensures { IfOk result (λ s. string_bytes s ≡ line_or section number (kept_as «record»)) }
+    ensures { IfOk result (λ s. string_bytes s ≡ record_line section (lent reader.now) number) }
 {
-    match record {
+    match record_in(reader, section, number) {
         Ok(line) => format!(in heap; "{line}"),
         Err(fault) => {
             let name = section_name(section);
@@ -53,35 +52,14 @@ fn line_or_remark(
     }
 }
 
-// The line of the record of this number.
-fn record_line(
-    heap: Global,
-    reader: &Reader,
-    section: Section,
-    number: usize,
-) -> Result<String, AllocError>
-    ensures { IfOk result (λ s. string_bytes s ≡ record_line section (lent reader.now) number) }
-{
-    line_or_remark(heap, section, number, record_in(reader, section, number))
-}
-
-// Adds a line with its newline.
-fn push_line(text: &mut String, line: &str) -> Result<(), AllocError>
-    ensures { OnOk result (string_bytes text.new ≡ string_bytes text.old ++ ended_line line.now) }
-{
-    text.push_str(line)?;
-    text.push_str("\n")?;
-    Ok(())
-}
-
 // The lines of a section, each with its newline.
 fn section_lines(heap: Global, reader: &Reader, section: Section) -> Result<String, AllocError>
     ensures { IfOk result (λ s. string_bytes s ≡ section_lines section (lent reader.now)) }
 {
     let mut text = String::new(heap);
-    for i in 0..reader.count(section) {
-        let line = record_line(heap, reader, section, i + 1)?;
-        push_line(&mut text, line.as_str())?;
+    for number in 1..=reader.count(section) {
+        text.push_str(&record_line(heap, reader, section, number)?)?;
+        text.push('\n')?;
     }
     Ok(text)
 }
@@ -91,25 +69,15 @@ fn all_lines(heap: Global, reader: &Reader) -> Result<String, AllocError>
     ensures { IfOk result (λ s. string_bytes s ≡ section_lines Deposits (lent reader.now) ++ section_lines Events (lent reader.now)) }
 {
     let mut text = section_lines(heap, reader, Section::Deposits)?;
-    text.push_str(section_lines(heap, reader, Section::Events)?.as_str())?;
+    text.push_str(&section_lines(heap, reader, Section::Events)?)?;
     Ok(text)
 }
 
-// The refusal of a file, by its number and its place.
-fn refusal_text(heap: Global, number: u8, place: usize) -> Result<String, AllocError>
-    ensures { IfOk result (λ s. string_bytes s ≡ refusal_text number place) }
-{
-    format!(in heap; "F {number} {place}")
-}
-
-// The text of a file that can't be read: that line alone.
+// The text of a file that can't be read: one line with the refusal's number and place.
 fn refused(heap: Global, fault: FileFault) -> Result<String, AllocError>
     ensures { IfOk result (λ s. string_bytes s ≡ ended_line (refusal_line fault)) }
 {
-    let mut text = String::new(heap);
-    let line = refusal_text(heap, fault.number(), fault.place())?;
-    push_line(&mut text, line.as_str())?;
-    Ok(text)
+    format!(in heap; "F {} {}\n", fault.number(), fault.place())
 }
 
 /// The text of a session file, or of the refusal of what is none.

@@ -1,9 +1,8 @@
 -- A number is read back from its own bytes, at any width.
-use Rattle.std.proofs.Common.{◌≡◌, ℕ, zero, suc, ◌+◌, ◌-◌, ◌/◌, ◌%◌, ◌^◌, ◌<◌, ◌≤◌, List, ◌∷◌, length, take, drop, sym, refl, ap, ◌∙◌, add-zero, add_assoc, mod-eq_of_lt, add-one, arith}
+use Rattle.std.proofs.Common.{◌≡◌, ℕ, zero, suc, ◌+◌, ◌/◌, ◌%◌, ◌^◌, ◌<◌, ◌≤◌, List, ◌∷◌, length, take, sym, refl, ap, ◌∙◌, mod-eq_of_lt, add-one, arith}
 use native.Mathlib.Nat.{pow-succ', mod-one}
 use lib.Arith.{mod-mul}
-use Rattle.std.specs.List.{between}
-use Rattle.std.proofs.lemmas.List.{get_or-take, get_or-drop}
+use Rattle.std.proofs.lemmas.List.{get_or-take}
 use Rattle.records.specs.Bytes.{be, bytes_of}
 
 power_positive : (k : ℕ) → 0 < 256 ^ k
@@ -31,10 +30,3 @@ length_bytes_of (suc k) n = ap suc (length_bytes_of k n)
 pub be_take : (k : ℕ) (bs : List ℕ) (i n : ℕ) → i + k ≤ n → be k (take n bs) i ≡ be k bs i
 be_take zero bs i n h = refl
 be_take (suc k) bs i n h = rw (get_or-take n bs i 0 (omega arith), be_take k bs (i + 1) n (omega arith))
-
-be_drop : (k : ℕ) (bs : List ℕ) (i p : ℕ) → be k (drop p bs) i ≡ be k bs (p + i)
-be_drop zero bs i p = refl
-be_drop (suc k) bs i p = rw (get_or-drop p bs i 0, be_drop k bs (i + 1) p, ← add_assoc p i 1)
-
-pub be_between : (k : ℕ) (bs : List ℕ) (p : ℕ) → be k (between p (p + k) bs) 0 ≡ be k bs p
-be_between k bs p = be_take k (drop p bs) 0 (p + k - p) (omega arith) ∙ be_drop k bs 0 p ∙ ap (λ z. be k bs z) (add-zero p)

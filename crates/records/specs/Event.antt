@@ -2,8 +2,10 @@
 use Rattle.std.specs.Prelude.{◌≡◌, ℕ, ◌^◌, ◌<◌, Bool, true, false, cond, List, ◌∷◌, ◌++◌, length, take, drop, replicate, Ok, Err, Result, ◌==◌, slice_index}
 use Rattle.faults.specs.declared.record.RecordFault.{RecordFault}
 use Rattle.faults.specs.declared.record.RecordFault.TheVariants.{RowLength, UnknownKind, NotZero}
+use Rattle.offers.specs.declared.NewStep.{NewStep}
+use Rattle.offers.specs.declared.Raise.{Raise}
 use Rattle.records.specs.declared.event.Event.{Event}
-use Rattle.records.specs.declared.event.Event.TheVariants.{Open, NewStep, Raise, Close, Changeover}
+use Rattle.records.specs.declared.event.Event.TheVariants.{Open, NewStep as OfNewStep, Raise as OfRaise, Close, Changeover}
 use Rattle.records.specs.Bytes.{be, bytes_of, all_zero}
 
 -- an event as a value: an opening has its row itself, and not a place in a file
@@ -14,11 +16,17 @@ pub data EventValue : Type 0 where
   close : EventValue
   changeover : EventValue
 
--- the value of an event that the code holds
+-- the value of a new step, of a raise, and of an event that the code holds
+abbrev pub value_of_new_step : NewStep → EventValue
+value_of_new_step s = new_step s.seat s.market s.shares s.discount s.stamp
+
+abbrev pub value_of_raise : Raise → EventValue
+value_of_raise r = raise r.seat r.shares r.step r.discount r.stamp
+
 abbrev pub value_of : Event → EventValue
 value_of (Open row) = opening row.now
-value_of (NewStep seat market shares discount stamp) = new_step seat market shares discount stamp
-value_of (Raise seat shares step discount stamp) = raise seat shares step discount stamp
+value_of (OfNewStep s) = value_of_new_step s
+value_of (OfRaise r) = value_of_raise r
 value_of Close = close
 value_of Changeover = changeover
 

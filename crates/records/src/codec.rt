@@ -1,52 +1,47 @@
 //! The 16 bytes of an event, read and written.
-ghost use Rattle.std.specs.Prelude.{◌≡◌, Ok};
+ghost use Rattle.std.specs.Prelude.{◌≡◌, ◌∷◌, Ok, replicate};
 ghost use Rattle.records.specs.Bytes.{all_zero};
-ghost use Rattle.records.specs.Event.{seen, decoded, value_of, Encoded, opening, new_step, raise};
+ghost use Rattle.records.specs.Kind.{byte_of};
+ghost use Rattle.records.specs.Event.{seen, decoded, value_of, Encoded, opening, value_of_new_step, value_of_raise};
 
 use crate::event::Event;
+use crate::kind::Kind;
 use faults::RecordFault;
+use offers::{NewStep, Raise};
 
 // Whether every byte is zero.
 fn all_zero(bytes: &[u8]) -> bool
     ensures { result ≡ all_zero bytes.now }
 {
-    for byte in bytes {
-        if *byte != 0 {
-            return false;
-        }
-    }
-    true
+    bytes.iter().all(|byte| *byte == 0)
 }
 
 /// The event that these bytes keep.
-pub fn decode<'a>(record: &'a [u8; 16]) -> Result<Event<'a>, RecordFault>
+pub fn decode(record: &[u8; 16]) -> Result<Event<'_>, RecordFault>
     ensures { seen result ≡ decoded «record».now }
 {
     let discount = u16::from_be_bytes([record[6], record[7]]);
-    let stamp = u64::from_be_bytes([
-        record[8], record[9], record[10], record[11], record[12], record[13], record[14],
-        record[15],
-    ]);
-    match record[0] {
-        1 if record[1] == 0 => Ok(Event::Open(&record[2..16])),
-        2 if all_zero(&record[4..6]) => Ok(Event::NewStep {
+    // That there are eight bytes is proved: `unwrap` tests nothing.
+    let stamp = u64::from_be_bytes(*record.last_chunk().unwrap());
+    match Kind::try_from(record[0])? {
+        Kind::Open if record[1] == 0 => Ok(Event::Open(&record[2..])),
+        Kind::NewStep if all_zero(&record[4..6]) => Ok(Event::NewStep(NewStep {
             seat: record[1],
             market: record[2],
             shares: record[3],
             discount,
             stamp,
-        }),
-        3 if record[3] == 0 => Ok(Event::Raise {
+        })),
+        Kind::Raise if record[3] == 0 => Ok(Event::Raise(Raise {
             seat: record[1],
-            shares: record[2],
             step: u16::from_be_bytes([record[4], record[5]]),
+            shares: record[2],
             discount,
             stamp,
-        }),
-        4 if all_zero(&record[1..16]) => Ok(Event::Close),
-        5 if all_zero(&record[1..16]) => Ok(Event::Changeover),
-        1..=5 => Err(RecordFault::NotZero),
-        _ => Err(RecordFault::UnknownKind),
+        })),
+        Kind::Close if all_zero(&record[1..]) => Ok(Event::Close),
+        Kind::Changeover if all_zero(&record[1..]) => Ok(Event::Changeover),
+        _ => Err(RecordFault::NotZero),
     }
 }
 
@@ -58,32 +53,41 @@ fn encode_opening(row: &[u8]) -> Result<[u8; 16], RecordFault>
         return Err(RecordFault::RowLength);
     }
     let mut record = [0; 16];
-    record[0] = 1;
-    record[2..16].copy_from_slice(row);
+    record[0] = Kind::Open as u8;
+    record[2..].copy_from_slice(row);
     Ok(record)
 }
 
 // The bytes of a new step.
-fn encode_new_step(seat: u8, market: u8, shares: u8, discount: u16, stamp: u64) -> [u8; 16]
-    ensures { Encoded (Ok result) (new_step seat market shares discount stamp) }
+fn encode_new_step(step: NewStep) -> [u8; 16]
+    ensures { Encoded (Ok result) (value_of_new_step step) }
 {
-    let [d0, d1] = discount.to_be_bytes();
-    let [t0, t1, t2, t3, t4, t5, t6, t7] = stamp.to_be_bytes();
-    [
-        2, seat, market, shares, 0, 0, d0, d1, t0, t1, t2, t3, t4, t5, t6, t7,
-    ]
+    let mut record = [0; 16];
+    record[..4].copy_from_slice(&[Kind::NewStep as u8, step.seat, step.market, step.shares]);
+    record[6..8].copy_from_slice(&step.discount.to_be_bytes());
+    record[8..].copy_from_slice(&step.stamp.to_be_bytes());
+    record
 }
 
 // The bytes of a raise.
-fn encode_raise(seat: u8, shares: u8, step: u16, discount: u16, stamp: u64) -> [u8; 16]
-    ensures { Encoded (Ok result) (raise seat shares step discount stamp) }
+fn encode_raise(raise: Raise) -> [u8; 16]
+    ensures { Encoded (Ok result) (value_of_raise raise) }
 {
-    let [p0, p1] = step.to_be_bytes();
-    let [d0, d1] = discount.to_be_bytes();
-    let [t0, t1, t2, t3, t4, t5, t6, t7] = stamp.to_be_bytes();
-    [
-        3, seat, shares, 0, p0, p1, d0, d1, t0, t1, t2, t3, t4, t5, t6, t7,
-    ]
+    let mut record = [0; 16];
+    record[..3].copy_from_slice(&[Kind::Raise as u8, raise.seat, raise.shares]);
+    record[4..6].copy_from_slice(&raise.step.to_be_bytes());
+    record[6..8].copy_from_slice(&raise.discount.to_be_bytes());
+    record[8..].copy_from_slice(&raise.stamp.to_be_bytes());
+    record
+}
+
+// The bytes of an event that has no fields.
+fn encode_bare(kind: Kind) -> [u8; 16]
+    ensures { result ≡ byte_of kind ∷ replicate 15 0 }
+{
+    let mut record = [0; 16];
+    record[0] = kind as u8;
+    record
 }
 
 /// The 16 bytes that keep this event, unless it is an opening whose row isn't 14 bytes.
@@ -92,21 +96,9 @@ pub fn encode(event: Event) -> Result<[u8; 16], RecordFault>
 {
     match event {
         Event::Open(row) => encode_opening(row),
-        Event::NewStep {
-            seat,
-            market,
-            shares,
-            discount,
-            stamp,
-        } => Ok(encode_new_step(seat, market, shares, discount, stamp)),
-        Event::Raise {
-            seat,
-            shares,
-            step,
-            discount,
-            stamp,
-        } => Ok(encode_raise(seat, shares, step, discount, stamp)),
-        Event::Close => Ok([4, 0, 0, 0, 0, 0, 0, 0, 0, 0, 0, 0, 0, 0, 0, 0]),
-        Event::Changeover => Ok([5, 0, 0, 0, 0, 0, 0, 0, 0, 0, 0, 0, 0, 0, 0, 0]),
+        Event::NewStep(step) => Ok(encode_new_step(step)),
+        Event::Raise(raise) => Ok(encode_raise(raise)),
+        Event::Close => Ok(encode_bare(Kind::Close)),
+        Event::Changeover => Ok(encode_bare(Kind::Changeover)),
     }
 }

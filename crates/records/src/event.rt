@@ -1,23 +1,13 @@
 //! One event of a session.
 
+use offers::{NewStep, Raise};
+
 /// What a session's clerk recorded. An opening borrows its row, seven increments of two bytes, from the file.
-#[derive(Clone, Copy)]
+#[derive(Clone, Copy, PartialEq, Eq, Debug)]
 pub enum Event<'a> {
     Open(&'a [u8]),
-    NewStep {
-        seat: u8,
-        market: u8,
-        shares: u8,
-        discount: u16,
-        stamp: u64,
-    },
-    Raise {
-        seat: u8,
-        shares: u8,
-        step: u16,
-        discount: u16,
-        stamp: u64,
-    },
+    NewStep(NewStep),
+    Raise(Raise),
     Close,
     Changeover,
 }

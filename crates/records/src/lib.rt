@@ -3,8 +3,10 @@
 
 mod codec;
 mod event;
+mod kind;
 #[cfg(test)]
 mod tests;
 
 pub use codec::{decode, encode};
 pub use event::Event;
+pub use offers::{NewStep, Raise};

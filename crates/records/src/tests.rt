@@ -29,18 +29,11 @@ fn an_opening_borrows_its_row(rt: HostRuntime) -> Result<(), Fail> {
 #[test]
 fn a_new_step_has_its_fields(rt: HostRuntime) -> Result<(), Fail> {
     let event = decode(&NEW_STEP)?;
-    let Event::NewStep {
-        seat,
-        market,
-        shares,
-        discount,
-        stamp,
-    } = event
-    else {
+    let Event::NewStep(step) = event else {
         return Err(Fail::new("no new step"));
     };
-    assert!(rt; seat == 24 && market == 7 && shares == 100);
-    assert!(rt; discount == 10_000 && stamp == 0x0102_0304_0506_0708);
+    assert!(rt; step.seat == 24 && step.market == 7 && step.shares == 100);
+    assert!(rt; step.discount == 10_000 && step.stamp == 0x0102_0304_0506_0708);
     assert!(rt; encode(event)? == NEW_STEP);
     Ok(())
 }
@@ -48,18 +41,11 @@ fn a_new_step_has_its_fields(rt: HostRuntime) -> Result<(), Fail> {
 #[test]
 fn a_raise_has_its_fields(rt: HostRuntime) -> Result<(), Fail> {
     let event = decode(&RAISE)?;
-    let Event::Raise {
-        seat,
-        shares,
-        step,
-        discount,
-        stamp,
-    } = event
-    else {
+    let Event::Raise(raise) = event else {
         return Err(Fail::new("no raise"));
     };
-    assert!(rt; seat == 1 && shares == 99 && step == 1_025);
-    assert!(rt; discount == 300 && stamp == u64::MAX);
+    assert!(rt; raise.seat == 1 && raise.shares == 99 && raise.step == 1_025);
+    assert!(rt; raise.discount == 300 && raise.stamp == u64::MAX);
     assert!(rt; encode(event)? == RAISE);
     Ok(())
 }

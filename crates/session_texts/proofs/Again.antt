@@ -13,8 +13,8 @@ use Rattle.session_texts.specs.Records.{events_in, file_size, file_of}
 use Rattle.session_texts.specs.Told.{told, heard_all}
 use Rattle.session_texts.specs.Drafts.{MadeFrom}
 use Rattle.session_texts.specs.Again.{records_from, MadeAgain}
-use Rattle.session_texts.proofs.Files.{size_counted}
-use Rattle.session_texts.proofs.Heard.{lines_of_records, all_heard, in_time, deposits_from, events_from}
+use Rattle.session_texts.proofs.Drafts.{size_counted, deposits_from, events_from}
+use Rattle.session_texts.proofs.Heard.{lines_of_records, all_heard, in_time}
 use Rattle.session_texts.proofs.Relisted.{listed_text}
 
 module _ (ds : List ℕ) (es : List EventValue) (fit : AllByRecursion Fits (records_from ds es)) (small : size_of (length ds) (length es) ≤ 65536) where

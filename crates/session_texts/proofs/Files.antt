@@ -1,17 +1,20 @@
 -- The file of deposits and events whose rows fit.
-use Rattle.std.proofs.Common.{◌≡◌, ℕ, ◌+◌, ◌*◌, ◌≤◌, true, List, [], ◌∷◌, ◌++◌, map, length, take, Ok, Err, sym, refl, ap, ◌∙◌, arith}
+use Rattle.std.proofs.Common.{◌≡◌, ℕ, zero, suc, ◌+◌, ◌≤◌, true, List, [], ◌∷◌, ◌++◌, map, length, take, Ok, Err, Result, IsOk, sym, refl, ap, subst, ◌∙◌, arith}
 use Rattle.std.proofs.lemmas.Bool.Decides.{nat_tests}
 use Rattle.std.specs.List.{flat_map, AllByRecursion}
-use Rattle.std.proofs.lemmas.List.{length-append, length-map, take_at, drop_all, append-nil}
+use Rattle.std.proofs.lemmas.List.{length-append, take_at, drop_all, append-nil}
 use Rattle.faults.specs.declared.file.FileFault.{FileFault}
 use Rattle.records.specs.declared.event.Event.{Event}
 use Rattle.records.specs.Bytes.{bytes_of}
 use Rattle.records.specs.Event.{EventValue, value_of, opening, new_step, raise, close, changeover, encoded, row_fits}
-use Rattle.lines.specs.Record.{Record, deposit, event}
+use Rattle.lines.specs.Record.{Record}
 use Rattle.sessions.specs.Layout.{size_of}
 use Rattle.sessions.specs.Reading.{next}
-use Rattle.session_texts.specs.Records.{file_size, deposits_in, events_in}
-use Rattle.session_writer.specs.Writing.{written, room_for, rows_fit, session_bytes, session_put}
+use Rattle.session_writer.proofs.Sections.{Even, length_joined}
+use Rattle.session_writer.proofs.Wholes.{even_deposits}
+use Rattle.session_texts.specs.Records.{file_size, deposits_in, events_in, file_of}
+use Rattle.session_texts.proofs.Drafts.{size_counted}
+use Rattle.session_writer.specs.Writing.{written, room_for, rows_fit, session_bytes, session_put, Wrote}
 
 abbrev pub AllFit : List EventValue → Type 0
 AllFit vs = AllByRecursion (λ e. row_fits e ≡ true) vs
@@ -23,22 +26,16 @@ encoded_long (raise a b s d t) h = refl
 encoded_long close h = refl
 encoded_long changeover h = refl
 
-length_events : (vs : List EventValue) → AllFit vs → length (flat_map encoded vs) ≡ 16 * length vs
-length_events [] h = refl
-length_events (e ∷ es) h =
-    let a = encoded_long e h.0 in
-    let b = length_events es h.1 in
-    length-append (encoded e) (flat_map encoded es) ∙ omega arith
-
-length_deposits : (ds : List ℕ) → length (flat_map (bytes_of 4) ds) ≡ 4 * length ds
-length_deposits [] = refl
-length_deposits (d ∷ ds) = let b = length_deposits ds in omega arith
+even_fit : (vs : List EventValue) → AllFit vs → Even encoded 16 close vs
+even_fit [] h k l = absurd (omega arith)
+even_fit (e ∷ es) h zero l = encoded_long e h.0
+even_fit (e ∷ es) h (suc k) l = even_fit es h.1 k (omega arith)
 
 pub length_session : (ds : List ℕ) (vs : List EventValue) → AllFit vs → length (session_bytes ds vs) ≡ size_of (length ds) (length vs)
 length_session ds vs h =
     let a = length-append (flat_map (bytes_of 4) ds) (flat_map encoded vs) in
-    let b = length_deposits ds in
-    let c = length_events vs h in
+    let b = length_joined (bytes_of 4) 4 0 ds (even_deposits ds) in
+    let c = length_joined encoded 16 close vs (even_fit vs h) in
     omega arith
 
 all_rows_fit : (n : ℕ) (vs : List EventValue) → AllFit vs → rows_fit n vs ≡ Ok tt
@@ -60,30 +57,23 @@ pub rows_of_values : (es : List Event) → AllByRecursion (λ e. row_fits (value
 rows_of_values [] h = tt
 rows_of_values (e ∷ es) h = (h.0, rows_of_values es h.1)
 
--- what the writer leaves where all fits
-module _ (ms ds : List ℕ) (es : List Event) (size : ℕ) (long : length ms ≡ size) (sized : size ≡ size_of (length ds) (length es)) (small : size ≤ 65536) (rows : AllByRecursion (λ e. row_fits (value_of e) ≡ true) es) where
-  put_fits : session_put ms ds (map value_of es) ≡ Ok (session_bytes ds (map value_of es))
-  put_fits = let n = length-map es value_of in session_is_file ms ds (map value_of es) (rows_of_values es rows) (omega arith) (omega arith)
-
-  pub never_refused : (f : FileFault) → session_put ms ds (map value_of es) ≡ Err f → ⊥
-  never_refused f h = let p = put_fits in let z : ◌≡◌ {A = ℕ} 0 1 = cc in omega arith
-
-  pub all_written : (new rest : List ℕ) → session_put ms ds (map value_of es) ≡ Ok new → take size (new ++ rest) ≡ session_bytes ds (map value_of es)
-  all_written new rest h =
-      let n = length-map es value_of in
-      let p = put_fits in
-      let same : new ≡ session_bytes ds (map value_of es) = cc in
-      take_at new rest size (ap length same ∙ length_session ds (map value_of es) (rows_of_values es rows) ∙ omega arith) ∙ same
-
--- the size that was counted is that of the file
-pub size_counted : (rs : List Record) → file_size rs ≡ size_of (length (deposits_in rs)) (length (events_in rs))
-size_counted [] = refl
-size_counted (deposit dollars ∷ rs) = let h = size_counted rs in omega arith
-size_counted (event e ∷ rs) = let h = size_counted rs in omega arith
-
-pub size_found : (rs : List Record) (size : ℕ) (ds : List ℕ) (es : List Event) → size ≡ file_size rs → ds ≡ deposits_in rs → map value_of es ≡ events_in rs → size ≡ size_of (length ds) (length es)
-size_found rs size ds es p q r =
+-- the file of some records is put into a memory of its size, and fills it
+pub file_put : (ms ds : List ℕ) (es : List Event) (rs : List Record) → length ms ≡ file_size rs → file_size rs ≤ 65536 → ds ≡ deposits_in rs → map value_of es ≡ events_in rs → AllByRecursion (λ e. row_fits (value_of e) ≡ true) es
+    → (session_put ms ds (map value_of es) ≡ Ok (file_of rs)) × (length (file_of rs) ≡ length ms)
+file_put ms ds es rs long small p q rows =
     let a = size_counted rs in
-    let b = ap length q in
-    let c : length es ≡ length (events_in rs) = sym (length-map es value_of) ∙ ap length r in
-    omega arith
+    let fit = subst AllFit q (rows_of_values es rows) in (
+      ap (λ l. session_put ms l (map value_of es)) p ∙ ap (λ l. session_put ms (deposits_in rs) l) q ∙ session_is_file ms (deposits_in rs) (events_in rs) fit (omega arith) (omega arith),
+      length_session (deposits_in rs) (events_in rs) fit ∙ sym a ∙ sym long,
+    )
+
+-- what the writer answers, and leaves, where it puts a file
+pub put_accepted : (r : Result (Unit {0}) FileFault) (old new file : List ℕ) (put : Result (List ℕ) FileFault) → Wrote r old new put → put ≡ Ok file → IsOk r
+put_accepted (Ok x) old new file put h e = refl
+put_accepted (Err f) old new file put h e = absurd (let p = h.0 in let z : ◌≡◌ {A = ℕ} 0 1 = cc in omega arith)
+
+pub put_left : (r : Result (Unit {0}) FileFault) (x : Unit {0}) (old new file rest : List ℕ) (put : Result (List ℕ) FileFault) (size : ℕ) → Wrote r old new put → put ≡ Ok file → r ≡ Ok x → length file ≡ size → take size (new ++ rest) ≡ file
+put_left r x old new file rest put size h e o n =
+    let p : put ≡ Ok new = rw o at h in
+    let same : new ≡ file = cc in
+    take_at new rest size (ap length same ∙ n) ∙ same

@@ -1,15 +1,15 @@
 -- The lines of records that come in time and fit are all heard.
 use Rattle.std.proofs.Common.{◌≡◌, ℕ, ◌+◌, ◌≤◌, true, false, eqb, leb, List, [], ◌∷◌, ◌++◌, map, Ok, sym, refl, ap, ◌∙◌, append_assoc, arith}
 use Rattle.std.proofs.lemmas.Bool.Decides.{nat_tests}
-use Rattle.std.specs.List.{flat_map, AllByRecursion}
+use Rattle.std.specs.List.{flat_map, AllByRecursion, onto_first}
 use Rattle.std.proofs.lemmas.List.{append-nil}
 use Rattle.records.specs.Event.{EventValue}
 use Rattle.lines.specs.Record.{Record, deposit, event, Fits}
 use Rattle.lines.specs.Shown.{shown_record, OneLine}
 use Rattle.lines.proofs.Back.{line_back, no_newline}
 use Rattle.listings.specs.Texts.{ended_line}
-use Rattle.session_texts.specs.Lines.{lines_of, on_first}
-use Rattle.session_texts.specs.Records.{record_size, file_size, has_event, deposits_in, events_in}
+use Rattle.session_texts.specs.Lines.{lines_of}
+use Rattle.session_texts.specs.Records.{record_size, file_size, has_event}
 use Rattle.session_texts.specs.Told.{late, heard, heard_from, heard_all}
 use Rattle.session_texts.specs.Again.{records_from}
 use Rattle.session_texts.proofs.Drafts.{file_size_push, has_event_append}
@@ -19,7 +19,7 @@ line_first : (l text : List ℕ) → OneLine l → lines_of (l ++ (10 ∷ text))
 line_first [] text h = refl
 line_first (b ∷ bs) text h =
     let other : eqb b 10 ≡ false = grind (arith, nat_tests, h.0) in
-    rw other (ap (on_first b) (line_first bs text h.1))
+    rw other (ap (onto_first b) (line_first bs text h.1))
 
 -- the text of these records
 abbrev pub text_of : List Record → List ℕ
@@ -65,13 +65,3 @@ events_in_time (e ∷ es) done = (refl, events_in_time es (done ++ (event e ∷ 
 pub in_time : (ds : List ℕ) (es : List EventValue) (done : List Record) → has_event done ≡ false → InTime done (records_from ds es)
 in_time [] es done h = events_in_time es done
 in_time (d ∷ ds) es done h = (h, in_time ds es (done ++ (deposit d ∷ [])) (has_event_append done (deposit d) ∙ rw h))
-
-pub deposits_from : (ds : List ℕ) (es : List EventValue) → deposits_in (records_from ds es) ≡ ds
-deposits_from (d ∷ ds) es = ap (λ l. d ∷ l) (deposits_from ds es)
-deposits_from [] (e ∷ es) = deposits_from [] es
-deposits_from [] [] = refl
-
-pub events_from : (ds : List ℕ) (es : List EventValue) → events_in (records_from ds es) ≡ es
-events_from (d ∷ ds) es = events_from ds es
-events_from [] (e ∷ es) = ap (λ l. e ∷ l) (events_from [] es)
-events_from [] [] = refl

@@ -1,7 +1,6 @@
 pub mod Drafts
-pub mod Cuts
-pub mod Among
 pub mod Files
 pub mod Heard
 pub mod Relisted
 pub mod Again
+pub mod Lines

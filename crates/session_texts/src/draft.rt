@@ -1,17 +1,106 @@
 //! The records that a text has told so far.
-ghost use Rattle.std.specs.Prelude.{◌≡◌, ◌≤◌, map};
+ghost use Rattle.std.specs.Prelude.{◌≡◌, true, ◌+◌, ◌≤◌, false, [], ◌∷◌, ◌++◌, OnOk};
+ghost use Rattle.std.specs.List.{list_all};
 ghost use Rattle.lines.specs.Record.{record_of};
-ghost use Rattle.session_texts.specs.Records.{file_size, has_event as holds_event};
+ghost use Rattle.lines.specs.Parsed.{parsed};
+ghost use Rattle.sessions.specs.Layout.{size_of};
+ghost use Rattle.session_texts.specs.Records.{record_size, file_size, is_event};
+ghost use Rattle.session_texts.specs.Told.{late, heard};
 
-use lines::Line;
+use crate::fault::{MakeFault, TextFault};
+use lines::{Line, parse_line};
+use sessions::MOST_BYTES;
+use std::alloc::{AllocError, Global};
 
-/// The records told so far, with the size of their file, 65,536 bytes at most, and whether an event is among them.
+/// The records told so far, deposits before events. Their file has 65,536 bytes at most.
 #[derive(Drop)]
 pub(crate) struct Draft {
-    pub(crate) lines: Vec<Line>,
-    pub(crate) size: usize,
-    pub(crate) has_event: bool,
-    ghost sized: { size ≡ file_size (map record_of lines.items) },
-    ghost small: { size ≤ 65536 },
-    ghost told: { has_event ≡ holds_event (map record_of lines.items) },
+    pub(crate) deposits: Vec<u32>,
+    pub(crate) events: Vec<Line>,
+    ghost only_events: { list_all (λ line. is_event (record_of line)) events.items ≡ true },
+    ghost small: { size_of deposits.len events.len ≤ 65536 },
+}
+
+// How many bytes the record of a line takes in a file.
+fn width(line: &Line) -> usize
+    ensures { result ≡ record_size (record_of line.now) }
+{
+    match line {
+        Line::Deposit(_) => 4,
+        _ => 16,
+    }
+}
+
+impl Draft {
+    ghost use Rattle.session_texts.specs.Drafts.{records_of, Taken, Heard};
+
+    /// Nothing told yet: a file of a header alone.
+    pub(crate) fn new(heap: Global) -> Draft
+        ensures { records_of result ≡ [] }
+    {
+        Draft {
+            deposits: Vec::new(heap),
+            events: Vec::new(heap),
+        }
+    }
+
+    /// How many bytes the file of these records has.
+    pub(crate) fn size(&self) -> usize
+        ensures value { result ≡ file_size (records_of self.now) }
+        ensures small { result ≤ 65536 }
+    {
+        16 + 4 * self.deposits.len() + 16 * self.events.len()
+    }
+
+    // Whether a record comes too late: a deposit behind an event.
+    fn is_late(&self, line: &Line) -> bool
+        ensures { result ≡ late (records_of self.now) (record_of line.now) }
+    {
+        match line {
+            Line::Deposit(_) => !self.events.is_empty(),
+            _ => false,
+        }
+    }
+
+    // The record that a line says, if it says one, unless there is no place for it here.
+    fn record(&self, text: &[u8]) -> Result<Option<Line>, TextFault>
+        ensures { Taken result (records_of self.now) (parsed text.now) }
+    {
+        let Some(line) = parse_line(text)? else {
+            return Ok(None);
+        };
+        if self.is_late(&line) {
+            return Err(TextFault::LateDeposit);
+        }
+        if self.size() + width(&line) > MOST_BYTES {
+            return Err(TextFault::Oversize);
+        }
+        Ok(Some(line))
+    }
+
+    // One record more, which has a place here.
+    fn push(&mut self, line: Line) -> Result<(), AllocError>
+        requires in_time { late (records_of self.old) (record_of line) ≡ false }
+        requires room { file_size (records_of self.old) + record_size (record_of line) ≤ 65536 }
+        ensures { OnOk result (records_of self.new ≡ records_of self.old ++ record_of line ∷ []) }
+    {
+        match line {
+            Line::Deposit(dollars) => self.deposits.push(dollars)?,
+            event => self.events.push(event)?,
+        }
+        Ok(())
+    }
+
+    /// Hears the line of this number.
+    pub(crate) fn hear(&mut self, number: usize, text: &[u8]) -> Result<(), MakeFault>
+        ensures { Heard result number (heard (records_of self.old) (parsed text.now)) (records_of self.new) }
+    {
+        let record = self
+            .record(text)
+            .map_err(|fault| MakeFault::Line(number, fault))?;
+        if let Some(line) = record {
+            self.push(line)?;
+        }
+        Ok(())
+    }
 }

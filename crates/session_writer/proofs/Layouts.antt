@@ -1,12 +1,12 @@
 -- A header in the standard layout may be read, and says what was written.
-use Rattle.std.proofs.Common.{◌≡◌, ℕ, ◌+◌, ◌*◌, ◌<◌, ◌≤◌, true, false, ltb, List, ◌++◌, length, take, drop, Ok, sym, refl, ap, ◌∙◌, subst, arith, length-append, length-drop}
+use Rattle.std.proofs.Common.{◌≡◌, ℕ, ◌+◌, ◌*◌, ◌<◌, ◌≤◌, true, false, ltb, List, ◌++◌, length, take, drop, Ok, sym, refl, subst, arith, length-append, length-drop}
 use Rattle.std.proofs.lemmas.Bool.Decides.{nat_tests}
 use Rattle.std.specs.Str.{bytes_eq}
 use Rattle.records.proofs.BigEndian.{number_back}
 use Rattle.faults.specs.declared.section.Section.TheVariants.{Deposits, Events}
 use Rattle.sessions.specs.Layout.{letters, count, start, finish, header_of, size_of}
-use Rattle.sessions.specs.Reading.{opened, outside, overlap, next}
-use Rattle.session_writer.specs.Writing.{room_for, Room, header_put, written}
+use Rattle.sessions.specs.Reading.{opened, outside, overlap}
+use Rattle.session_writer.specs.Writing.{room_for, Room}
 use Rattle.session_writer.specs.RoundTrip.{HeaderIn}
 
 -- sections one behind the other, within the file
@@ -42,9 +42,9 @@ module _ (c m : ℕ) (rest : List ℕ) (few : c < 65536) (few' : m < 65536) wher
 pub room : (size c m : ℕ) → Ok tt ≡ room_for size c m → Room size c m
 room size c m h = record { deposits = grind (arith, nat_tests); events = grind (arith, nat_tests); fits = grind (arith, nat_tests) }
 
-pub header_is_put : (ms ys : List ℕ) (c m : ℕ) → Ok tt ≡ room_for (length ms) c m → ys ≡ header_of c m → (header_put ms c m ≡ Ok (ys ++ drop 16 ms)) × HeaderIn ms (ys ++ drop 16 ms) c m
-header_is_put ms ys c m h y =
-    let r = room (length ms) c m h in
-    let same : header_of c m ++ drop 16 ms ≡ ys ++ drop 16 ms = ap (λ l. l ++ drop 16 ms) (sym y) in
-    let in_file : HeaderIn ms (header_of c m ++ drop 16 ms) c m = record { opens = header_opens c m (drop 16 ms) r.deposits r.events (omega (arith, length-append (header_of c m) (drop 16 ms), length-drop 16 ms)); deposits = deposit_count c m (drop 16 ms) r.deposits r.events; events = event_count c m (drop 16 ms) r.deposits r.events; behind = refl } in
-    (ap (λ a. next a (λ _. Ok (written ms 0 (header_of c m)))) (sym h) ∙ ap Ok same, subst (λ (new : List ℕ). HeaderIn ms new c m) same in_file)
+pub header_back : (ms ys : List ℕ) (c m : ℕ) → room_for (length ms) c m ≡ Ok tt → ys ≡ header_of c m → HeaderIn ms (ys ++ drop 16 ms) c m
+header_back ms ys c m h y =
+    let r = room (length ms) c m (sym h) in
+    let size = length-append (header_of c m) (drop 16 ms) in
+    subst (λ (head : List ℕ). HeaderIn ms (head ++ drop 16 ms) c m) (sym y)
+    (record { opens = header_opens c m (drop 16 ms) r.deposits r.events (omega (arith, r.fits, length-drop 16 ms)); deposits = deposit_count c m (drop 16 ms) r.deposits r.events; events = event_count c m (drop 16 ms) r.deposits r.events; behind = refl })

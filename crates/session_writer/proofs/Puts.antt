@@ -1,18 +1,16 @@
 -- A record put into a file is read back, and no other record changes.
-use Rattle.std.proofs.Common.{◌≡◌, ℕ, ◌+◌, ◌-◌, ◌*◌, ◌^◌, ◌<◌, ◌≤◌, Bool, true, false, cond, ◌⊎◌, List, length, take, Ok, Err, Result, sym, refl, ap, ◌∙◌, subst, arith}
+use Rattle.std.proofs.Common.{◌≡◌, ℕ, ◌+◌, ◌-◌, ◌*◌, ◌^◌, ◌<◌, ◌≤◌, Bool, true, false, cond, ◌⊎◌, List, length, take, Ok, Result, sym, refl, ap, ◌∙◌, subst, arith}
 use borrow.Rule.Slice.PartMut.{put_mid}
-use Rattle.faults.specs.declared.record.RecordFault.TheVariants.{RowLength}
 use Rattle.records.specs.Bytes.{be, bytes_of}
-use Rattle.records.specs.Event.{EventValue, encoded, decoded, row_fits, Keeps}
+use Rattle.records.specs.Event.{EventValue, encoded, decoded}
 use Rattle.records.proofs.BigEndian.{number_back}
 use Rattle.faults.specs.declared.section.Section.{Section}
 use Rattle.faults.specs.declared.section.Section.TheVariants.{Deposits, Events}
 use Rattle.faults.specs.declared.file.FileFault.{FileFault}
-use Rattle.faults.specs.declared.file.FileFault.TheVariants.{Record}
 use Rattle.sessions.specs.Layout.{count, place, width}
 use Rattle.sessions.specs.Reading.{opened, numbered, next, record_at, located, of_number}
-use Rattle.session_writer.specs.Writing.{written, deposit_put, event_put}
-use Rattle.session_writer.specs.RoundTrip.{OnlyRecord, DepositIn, EventIn}
+use Rattle.session_writer.specs.Writing.{written}
+use Rattle.session_writer.specs.RoundTrip.{OnlyRecord, DepositIn, EventIn, Kept}
 use Rattle.sessions.proofs.Records.{opened_record}
 use Rattle.sessions.proofs.Header.{Found, found, record_within, records_apart}
 use Rattle.session_writer.proofs.Written as kept
@@ -66,19 +64,17 @@ module _ (s : Section) (ms ys : List ℕ) (n at : ℕ) (f : Found s ms n at) (si
       opened_record s (written ms at ys) n at (opens ∙ f.opens) (same_place s n ∙ sym f.here)
       ∙ same_answer _ true _ _ _ (ap (λ c. numbered n c) (counts s) ∙ f.counted) (λ _. ap Ok (kept.here_written ms ys at room (at + width s) (omega arith)))
 
-module _ (ms ys : List ℕ) (n at : ℕ) where
-  pub deposit_is_put : (dollars : ℕ) → Ok at ≡ located Deposits ms n → dollars < 2 ^ 32 → ys ≡ bytes_of 4 dollars → (deposit_put ms n dollars ≡ Ok (put_mid at (at + 4 - at) ms ys)) × DepositIn ms (put_mid at (at + 4 - at) ms ys) n dollars
-  deposit_is_put d h small y =
+module _ (ms ys : List ℕ) (n at k : ℕ) where
+  pub deposit_back : (dollars : ℕ) → Ok at ≡ located Deposits ms n → dollars < 2 ^ 32 → ys ≡ bytes_of 4 dollars → k ≡ 4 → DepositIn ms (put_mid at k ms ys) n dollars
+  deposit_back d h small y size =
       let f = found Deposits ms n at (sym h) in
       let bs = bytes_of 4 d in
-      let same : written ms at bs ≡ put_mid at (at + 4 - at) ms ys = kept.part_written ms ys bs at (at + 4 - at) y (omega arith) in
-      let in_file : DepositIn ms (written ms at bs) n d = record { here = ap (λ r. next r (λ z. Ok (be 4 z 0))) (record_back Deposits ms bs n at f refl) ∙ ap Ok (number_back 4 d small); only = only_record Deposits ms bs n at f refl } in
-      (ap (λ r. next r (λ z. Ok (written ms z bs))) (sym h) ∙ ap Ok same, subst (λ (new : List ℕ). DepositIn ms new n d) same in_file)
+      let same : written ms at bs ≡ put_mid at k ms ys = kept.part_written ms ys bs at k y size in
+      subst (λ (new : List ℕ). DepositIn ms new n d) same (record { here = ap (λ r. next r (λ z. Ok (be 4 z 0))) (record_back Deposits ms bs n at f refl) ∙ ap Ok (number_back 4 d small); only = only_record Deposits ms bs n at f refl })
 
-  pub event_is_put : (e : EventValue) → Ok at ≡ located Events ms n → row_fits e ≡ true → Keeps ys e → (event_put ms n e ≡ Ok (put_mid at (at + 16 - at) ms ys)) × EventIn ms (put_mid at (at + 16 - at) ms ys) n e
-  event_is_put e h row y =
+  pub event_back : (e : EventValue) → Ok at ≡ located Events ms n → ys ≡ encoded e → Kept e → k ≡ 16 → EventIn ms (put_mid at k ms ys) n e
+  event_back e h y keeps size =
       let f = found Events ms n at (sym h) in
-      let same : written ms at (encoded e) ≡ put_mid at (at + 16 - at) ms ys = kept.part_written ms ys (encoded e) at (at + 16 - at) y.bytes (omega (arith, y.long, ap length y.bytes)) in
-      let mine : written ms at ys ≡ put_mid at (at + 16 - at) ms ys = kept.part_written ms ys ys at (at + 16 - at) refl (omega (arith, y.long)) in
-      let in_file : EventIn ms (written ms at ys) n e = record { here = ap (λ r. next r (λ z. of_number n (decoded z))) (record_back Events ms ys n at f y.long) ∙ ap (of_number n) y.back; only = only_record Events ms ys n at f y.long } in
-      (ap (λ r. next (next r (λ z. Ok (written ms z (encoded e)))) (λ new. cond (row_fits e) (Ok new) (Err (Record n RowLength)))) (sym h) ∙ rw (row, same), subst (λ (new : List ℕ). EventIn ms new n e) mine in_file)
+      let bs = encoded e in
+      let same : written ms at bs ≡ put_mid at k ms ys = kept.part_written ms ys bs at k y (omega (arith, keeps.1.long)) in
+      subst (λ (new : List ℕ). EventIn ms new n e) same (record { here = ap (λ r. next r (λ z. of_number n (decoded z))) (record_back Events ms bs n at f keeps.1.long) ∙ ap (of_number n) keeps.1.back; only = only_record Events ms bs n at f keeps.1.long })

@@ -1,8 +1,8 @@
 -- Records of one width, one behind the other.
-use Rattle.std.proofs.Common.{◌≡◌, ℕ, zero, suc, ◌+◌, ◌-◌, ◌*◌, ◌<◌, ◌≤◌, List, [], ◌∷◌, ◌++◌, length, get_or, take, drop, sym, refl, ap, ◌∙◌, subst, append_assoc, mul-le-mul_left, mul-zero, mul-suc, arith}
+use Rattle.std.proofs.Common.{◌≡◌, ℕ, zero, suc, ◌+◌, ◌-◌, ◌*◌, ◌<◌, ◌≤◌, List, [], ◌∷◌, ◌++◌, length, get_or, take, drop, sym, refl, ap, ◌∙◌, append_assoc, mul-le-mul_left, mul-zero, mul-suc, arith}
 use borrow.Rule.Slice.PartMut.{put_mid}
 use Rattle.std.specs.List.{between, flat_map}
-use Rattle.std.proofs.lemmas.List.{length-append, length-drop, take_at, drop_at, drop-drop, take_more, take-append-le, drop-append-le, take_all, flat_map_more, length-take-le, get_or-take}
+use Rattle.std.proofs.lemmas.List.{length-append, length-drop, take_at, drop_at, drop-drop, take_more, take-append-le, drop-append-le, flat_map_more}
 use Rattle.session_writer.specs.Writing.{written}
 use Rattle.std.proofs.lemmas.Slice.{take-put_mid}
 use Rattle.session_writer.proofs.Written.{drop_written, part_written}
@@ -54,21 +54,18 @@ written_more ms at xs ys room =
     let rest : drop (length ys) (drop (at + length xs) ms) ≡ drop (length (xs ++ ys)) (drop at ms) = drop-drop (length ys) (at + length xs) ms ∙ ap (λ n. drop n ms) (omega (arith, length-append xs ys)) ∙ sym (drop-drop (length (xs ++ ys)) at ms) in
     rw (front, back, rest) (append_assoc (take at ms) xs _ ∙ ap (λ l. take at ms ++ l) (sym (append_assoc xs ys _)))
 
-module _ {X : Type 0} (f : X → List ℕ) (w : ℕ) (d : X) (ms : List ℕ) (from : ℕ) (xs : List X) (even : Even f w d xs) (room : from + w * length xs ≤ length ms) where
-  -- one record more
-  pub records_more : (i : ℕ) → i < length xs → written (written ms from (flat_map f (take i xs))) (from + w * i) (f (get_or xs i d)) ≡ written ms from (flat_map f (take (i + 1) xs))
-  records_more i h =
-      let n = length-take-le i xs (omega arith) in
-      let front : Even f w d (take i xs) = λ k l. let m : k < i = omega arith in rw (get_or-take i xs k d m) (even k (omega arith)) in
-      let size : length (flat_map f (take i xs)) ≡ w * i = length_joined f w d (take i xs) front ∙ ap (λ z. w * z) n in
-      let grown : flat_map f (take (i + 1) xs) ≡ flat_map f (take i xs) ++ f (get_or xs i d) = ap (λ l. flat_map f l) (take_more xs i d h) ∙ sym (flat_map_more f [] (take i xs) (get_or xs i d)) in
-      let fits : w * i + w ≤ w * length xs = subst (λ z. z ≤ w * length xs) (mul-suc w i) (mul-le-mul_left w (omega arith)) in
-      rw (grown, ← size) (written_more ms from (flat_map f (take i xs)) (f (get_or xs i d)) (omega (arith, even i h)))
-
-  -- one turn of the loop that writes them: the code's write to the next part
-  pub part_more : (i : ℕ) → i < length xs → (now ys : List ℕ) (k : ℕ) → now ≡ written ms from (flat_map f (take i xs)) → ys ≡ f (get_or xs i d) → k ≡ w → put_mid (from + w * i) k now ys ≡ written ms from (flat_map f (take (i + 1) xs))
-  part_more i h now ys k p q r =
-      sym (part_written now ys (f (get_or xs i d)) (from + w * i) k q (r ∙ sym (even i h))) ∙ ap (λ l. written l (from + w * i) (f (get_or xs i d))) p ∙ records_more i h
-
-  pub part_all : (i : ℕ) → length xs ≤ i → (now : List ℕ) → now ≡ written ms from (flat_map f (take i xs)) → now ≡ written ms from (flat_map f xs)
-  part_all i h now p = p ∙ ap (λ l. written ms from (flat_map f l)) (take_all i xs h)
+-- one turn of the loop that writes records of w bytes: the code's write to the next part
+pub part_more : {X : Type 0} (f : X → List ℕ) (w : ℕ) (ms : List ℕ) (from : ℕ) (xs : List X) (i : ℕ) (x : X) (now ys : List ℕ) (k : ℕ) → from + w * length xs ≤ length ms → i < length xs → x ≡ get_or xs i x → (now ≡ written ms from (flat_map f (take i xs))) × (length (flat_map f (take i xs)) ≡ w * i) → ys ≡ f x → length ys ≡ w → k ≡ w → (put_mid (from + w * i) k now ys ≡ written ms from (flat_map f (take (i + 1) xs))) × (length (flat_map f (take (i + 1) xs)) ≡ w * (i + 1))
+part_more f w ms from xs i x now ys k room h here so_far bytes long size =
+    let front = flat_map f (take i xs) in
+    let grown : flat_map f (take (i + 1) xs) ≡ front ++ ys = ap (λ l. flat_map f l) (take_more xs i x h) ∙ sym (flat_map_more f [] (take i xs) (get_or xs i x)) ∙ ap (λ z. front ++ f z) (sym here) ∙ ap (λ z. front ++ z) (sym bytes) in
+    let fits : w * suc i ≤ w * length xs = mul-le-mul_left w (omega arith) in
+    let more = mul-suc w i in
+    let add = length-append front ys in (
+      sym (part_written now ys ys (from + w * i) k refl (size ∙ sym long))
+          ∙ ap (λ l. written l (from + w * i) ys) so_far.0
+          ∙ ap (λ z. written (written ms from front) (from + z) ys) (sym so_far.1)
+          ∙ written_more ms from front ys (omega (arith, so_far.1))
+          ∙ ap (λ l. written ms from l) (sym grown),
+      ap length grown ∙ omega (arith, so_far.1),
+    )

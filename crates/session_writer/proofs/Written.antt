@@ -1,8 +1,8 @@
 -- What a write leaves as it was, over plain lists of bytes.
-use Rattle.std.proofs.Common.{◌≡◌, ℕ, ◌+◌, ◌-◌, ◌≤◌, ◌⊎◌, List, [], length, take, drop, sym, refl, ap, ◌∙◌, inl, inr, arith, rules}
+use Rattle.std.proofs.Common.{◌≡◌, ℕ, ◌+◌, ◌-◌, ◌≤◌, ◌⊎◌, List, length, take, drop, sym, refl, ap, ◌∙◌, inl, inr, arith, rules}
 use borrow.Rule.Slice.PartMut.{put_mid}
 use Rattle.std.specs.List.{between}
-use Rattle.std.proofs.lemmas.List.{take-take, take-append-drop}
+use Rattle.std.proofs.lemmas.List.{take-take}
 use Rattle.std.proofs.lemmas.Slice.{overwrites, between_is, take-put_mid_below, drop-put_mid, between-put_mid}
 use Rattle.records.specs.Bytes.{be}
 use Rattle.records.proofs.BigEndian.{be_take}
@@ -28,9 +28,6 @@ module _ (ms ys : List ℕ) (at : ℕ) (room : at + length ys ≤ length ms) whe
   pub apart_written : (a b : ℕ) → (b ≤ at) ⊎ (at + length ys ≤ a) → between a b (written ms at ys) ≡ between a b ms
   apart_written a b (inl h) = between_is (written ms at ys) a b ∙ ap (λ l. drop a l) (take_written b h) ∙ sym (between_is ms a b)
   apart_written a b (inr h) = ap (λ l. take (b - a) l) (drop_written a h)
-
-pub written_none : (ms : List ℕ) (at : ℕ) → ms ≡ written ms at []
-written_none ms at = sym (take-append-drop at ms)
 
 -- what the code's write to a part leaves is the memory with those bytes written
 pub part_written : (ms ys zs : List ℕ) (at k : ℕ) → ys ≡ zs → k ≡ length zs → written ms at zs ≡ put_mid at k ms ys

@@ -1,7 +1,6 @@
 //! The session file, written: into memory that is lent, record by record or whole.
 #![tactic(auto)]
 
-mod number;
 #[cfg(test)]
 mod tests;
 mod whole;

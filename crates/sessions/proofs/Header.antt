@@ -1,12 +1,14 @@
 -- What a header that may be read says of its sections, and where their records lie.
-use Rattle.std.proofs.Common.{◌≡◌, ℕ, ◌+◌, ◌-◌, ◌*◌, ◌<◌, ◌≤◌, Bool, true, false, cond, ◌⊎◌, List, length, Ok, Err, Result, sym, refl, subst, inl, inr, arith}
+use Rattle.std.proofs.Common.{◌≡◌, ℕ, suc, ◌+◌, ◌-◌, ◌*◌, ◌<◌, ◌≤◌, Bool, true, false, cond, ◌⊎◌, List, length, take, Ok, Err, Result, IfOk, sym, refl, ap, ◌∙◌, inl, inr, mul-le-mul_left, mul-suc, arith}
+use Rattle.std.proofs.lemmas.Bool.{cases_lt}
 use Rattle.std.proofs.lemmas.Bool.Decides.{nat_tests}
 use Rattle.faults.specs.declared.file.FileFault.{FileFault}
 use Rattle.faults.specs.declared.file.FileFault.TheVariants.{NoRecord}
 use Rattle.faults.specs.declared.section.Section.{Section}
 use Rattle.faults.specs.declared.section.Section.TheVariants.{Deposits, Events}
 use Rattle.sessions.specs.Layout.{count, start, finish, place, width}
-use Rattle.sessions.specs.Reading.{opened, numbered, located, next}
+use Rattle.sessions.specs.Reading.{opened, numbered, placed, located, next}
+use Rattle.records.proofs.BigEndian.{be_take}
 
 -- each section lies behind the header and within the file, and the two lie apart
 pub record Sound (bs : List ℕ) : Type 0 where
@@ -51,12 +53,15 @@ found s bs n at h =
     let w = went_through (opened bs) (numbered n (count s bs)) (place s bs n) at (NoRecord n) h in
     record { opens = w.0; counted = w.1; here = w.2 }
 
--- two records of one section
-apart_by_4 : (from n k : ℕ) → 1 ≤ n → 1 ≤ k → (k ≡ n → ⊥) → (from + 4 * (k - 1) + 4 ≤ from + 4 * (n - 1)) ⊎ (from + 4 * (n - 1) + 4 ≤ from + 4 * (k - 1))
-apart_by_4 from n k a b ne = grind arith
+-- two records of one section, each of w bytes
+ahead : (w from n k : ℕ) → 1 ≤ k → k + 1 ≤ n → from + w * (k - 1) + w ≤ from + w * (n - 1)
+ahead w from n k a h =
+    let m : w * suc (k - 1) ≤ w * (n - 1) = mul-le-mul_left w (omega arith) in
+    let s = mul-suc w (k - 1) in
+    omega arith
 
-apart_by_16 : (from n k : ℕ) → 1 ≤ n → 1 ≤ k → (k ≡ n → ⊥) → (from + 16 * (k - 1) + 16 ≤ from + 16 * (n - 1)) ⊎ (from + 16 * (n - 1) + 16 ≤ from + 16 * (k - 1))
-apart_by_16 from n k a b ne = grind arith
+apart_by : (w from n k : ℕ) → 1 ≤ n → 1 ≤ k → (k ≡ n → ⊥) → (from + w * (k - 1) + w ≤ from + w * (n - 1)) ⊎ (from + w * (n - 1) + w ≤ from + w * (k - 1))
+apart_by w from n k a b ne = elim (cases_lt k n) [ inl h ↦ inl (ahead w from n k b (omega arith)) | inr h ↦ inr (ahead w from k n a (omega arith)) ]
 
 -- a deposit and an event, where the sections lie apart
 across : (d e c m k n : ℕ) → (d + 4 * c ≤ e) ⊎ (e + 16 * m ≤ d) → (1 ≤ k) × (k ≤ c) → (1 ≤ n) × (n ≤ m) → (d + 4 * (k - 1) + 4 ≤ e + 16 * (n - 1)) ⊎ (e + 16 * (n - 1) + 16 ≤ d + 4 * (k - 1))
@@ -67,17 +72,36 @@ across d e c m k n (inr h) p q = inr (omega arith)
 ⊎_swap (inl x) = inr x
 ⊎_swap (inr y) = inl y
 
--- a record of this number begins where the header says, and lies within the file
-pub located_within : (s : Section) (bs : List ℕ) (n from size : ℕ) → Ok tt ≡ opened bs → 1 ≤ n → n ≤ count s bs → from ≡ start s bs → size ≡ width s → (Ok (from + size * (n - 1)) ≡ located s bs n) × (from + size * (n - 1) + width s ≤ length bs)
-located_within s bs n from size h low high f w =
-    let k : numbered n (count s bs) ≡ true = grind (arith, nat_tests) in
-    let p : from + size * (n - 1) ≡ place s bs n = cc in
-    (rw (← h, k, p), subst (λ (z : ℕ). z + width s ≤ length bs) (sym p) (record_within s bs n (sym h) k).1)
+-- the header says of the sections what the file does
+head_count : (s : Section) (bs : List ℕ) → count s (take 16 bs) ≡ count s bs
+head_count Deposits bs = be_take 2 bs 4 16 (omega arith)
+head_count Events bs = be_take 2 bs 6 16 (omega arith)
+
+head_start : (s : Section) (bs : List ℕ) → start s (take 16 bs) ≡ start s bs
+head_start Deposits bs = be_take 4 bs 8 16 (omega arith)
+head_start Events bs = be_take 4 bs 12 16 (omega arith)
+
+placed_in_head : (s : Section) (bs : List ℕ) (n : ℕ) → opened bs ≡ Ok tt → placed s (take 16 bs) n ≡ located s bs n
+placed_in_head s bs n h = rw (h, head_count s bs, head_start s bs)
+
+-- a record that is found lies within the file
+located_within : (s : Section) (bs : List ℕ) (n : ℕ) (r : Result ℕ FileFault) → r ≡ located s bs n → IfOk r (λ at. at + width s ≤ length bs)
+located_within s bs n (Ok at) h =
+    let f = found s bs n at (sym h) in
+    let w = record_within s bs n f.opens f.counted in
+    omega (arith, f.here)
+located_within s bs n (Err e) h = tt
+
+-- what the header of a file that may be read says of a record is so
+pub placed_in_file : (s : Section) (bs : List ℕ) (n : ℕ) (head : List ℕ) (r : Result ℕ FileFault) → opened bs ≡ Ok tt → head ≡ take 16 bs → r ≡ placed s head n → (r ≡ located s bs n) × IfOk r (λ at. at + width s ≤ length bs)
+placed_in_file s bs n head r h e p =
+    let q : r ≡ located s bs n = p ∙ ap (λ l. placed s l n) e ∙ placed_in_head s bs n h in
+    (q, located_within s bs n r q)
 
 -- two records that are not one lie apart
 pub records_apart : (s t : Section) (bs : List ℕ) (n k : ℕ) → opened bs ≡ Ok tt → numbered n (count s bs) ≡ true → numbered k (count t bs) ≡ true → ((t ≡ s) × (k ≡ n) → ⊥) → (place t bs k + width t ≤ place s bs n) ⊎ (place s bs n + width s ≤ place t bs k)
-records_apart Deposits Deposits bs n k h p q ne = apart_by_4 (start Deposits bs) n k (number_within n _ p).0 (number_within k _ q).0 (λ e. ne (refl, e))
-records_apart Events Events bs n k h p q ne = apart_by_16 (start Events bs) n k (number_within n _ p).0 (number_within k _ q).0 (λ e. ne (refl, e))
+records_apart Deposits Deposits bs n k h p q ne = apart_by 4 (start Deposits bs) n k (number_within n _ p).0 (number_within k _ q).0 (λ e. ne (refl, e))
+records_apart Events Events bs n k h p q ne = apart_by 16 (start Events bs) n k (number_within n _ p).0 (number_within k _ q).0 (λ e. ne (refl, e))
 records_apart Deposits Events bs n k h p q ne =
     let v = number_within n _ p in
     let w = number_within k _ q in

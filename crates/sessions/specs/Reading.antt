@@ -52,9 +52,12 @@ abbrev pub next : {A B : Type 0} → Result A FileFault → (A → Result B File
 next (Ok a) f = f a
 next (Err e) f = Err e
 
--- where the record of the number n begins
+-- where the header bs says that the record of the number n begins, and where it begins in the file bs
+abbrev pub placed : Section → List ℕ → ℕ → Result ℕ FileFault
+placed s bs n = cond (numbered n (count s bs)) (Ok (place s bs n)) (Err (NoRecord n))
+
 abbrev pub located : Section → List ℕ → ℕ → Result ℕ FileFault
-located s bs n = next (opened bs) (λ _. cond (numbered n (count s bs)) (Ok (place s bs n)) (Err (NoRecord n)))
+located s bs n = next (opened bs) (λ _. placed s bs n)
 
 -- its bytes
 abbrev pub record_at : Section → List ℕ → ℕ → Result (List ℕ) FileFault

@@ -2,10 +2,9 @@
 #![tactic(auto)]
 
 mod head;
-mod number;
 mod reader;
 #[cfg(test)]
 mod tests;
 
-pub use head::{LETTERS, place_of};
-pub use reader::{MOST_BYTES, Reader};
+pub use head::LETTERS;
+pub use reader::{MOST_BYTES, Reader, place_of};

@@ -1,6 +1,5 @@
 //! Literal files, each refusal at its edge, and damaged files.
-use crate::head::place_of;
-use crate::reader::Reader;
+use crate::reader::{Reader, place_of};
 use faults::{FileFault, RecordFault, Section};
 use records::Event;
 use std::test::Fail;

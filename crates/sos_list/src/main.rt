@@ -2,6 +2,7 @@
 #![tactic(auto)]
 
 use listings::list_session;
+use programs::run;
 use sessions::MOST_BYTES;
 use std::io::Read;
 use std::process::ExitCode;
@@ -17,13 +18,6 @@ fn list(rt: &HostRuntime) -> anyhow::Result<()> {
     Ok(())
 }
 
-// A refusal is told once, on standard error: a `main` that returned it would have it printed again.
 fn main(rt: HostRuntime) -> ExitCode {
-    match list(&rt) {
-        Ok(()) => ExitCode::SUCCESS,
-        Err(error) => {
-            let _ = eprintln!(rt; "sos-list: {error}");
-            ExitCode::FAILURE
-        }
-    }
+    run(&rt, "sos-list", || list(&rt))
 }

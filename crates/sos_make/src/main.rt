@@ -1,7 +1,7 @@
 //! sos-make: the text of a session on standard input, its session file on standard output.
 #![tactic(auto)]
 
-use anyhow::anyhow;
+use programs::run;
 use session_texts::make_session;
 use std::io::{Read, Write};
 use std::process::ExitCode;
@@ -10,20 +10,11 @@ use std::process::ExitCode;
 fn make(rt: &HostRuntime) -> anyhow::Result<()> {
     let mut text = Vec::new(rt.alloc());
     rt.stdin().read_to_end(&mut text)?;
-    match make_session(rt.alloc(), &text) {
-        Ok(file) => rt.stdout().write_all(&file)?,
-        Err(fault) => return Err(anyhow!(format!(in rt.alloc(); "{fault}")?)),
-    }
+    let file = make_session(rt.alloc(), &text)?;
+    rt.stdout().write_all(&file)?;
     Ok(())
 }
 
-// A refusal is told once, on standard error: a `main` that returned it would have it printed again.
 fn main(rt: HostRuntime) -> ExitCode {
-    match make(&rt) {
-        Ok(()) => ExitCode::SUCCESS,
-        Err(error) => {
-            let _ = eprintln!(rt; "sos-make: {error}");
-            ExitCode::FAILURE
-        }
-    }
+    run(&rt, "sos-make", || make(&rt))
 }

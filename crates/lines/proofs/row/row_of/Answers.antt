@@ -1,13 +1,11 @@
-use Rattle.std.proofs.Common.{get_or, ap, ◌∙◌, arith, length-set}
-use Rattle.lines.proofs.Pairs.{bytes_more, row_whole}
+use Rattle.std.proofs.Common.{◌≡◌, map, rules, ap, ◌∙◌, arith}
+use Rattle.std.specs.List.{flat_map}
+use Rattle.std.proofs.lemmas.List.Folds.{flat_map-map}
+use Rattle.records.specs.Bytes.{bytes_of}
+use Rattle.lines.proofs.Arrays.{mapped_is}
 use Rattle.lines.proofs.row.row_of.Goals as goal
 
-pub loop-i-preserved : goal.loop-i-preserved
-loop-i-preserved c =
-    let bytes = c.to_be_bytes.ensures in (
-      bytes_more c.args.steps c.loop-i.row c.loop-i.i _ _ (omega arith) (omega arith) (ap (λ l. get_or l 0 0) bytes) (ap (λ l. get_or l 1 0) bytes) ∙ c.loop-i.invariant.0,
-      simp length-set c.loop-i.invariant.1,
-    )
-
 pub returns : goal.returns
-returns c = row_whole c.args.steps c.loop-i.row c.loop-i.i (omega arith) (omega arith) ∙ c.loop-i.invariant.0
+returns c =
+    let pairs : c.map-pairs.result ≡ map (bytes_of 2) c.args.steps = mapped_is _ _ (bytes_of 2) (λ p q x y k. search rules) _ _ 7 (omega arith) c.map-pairs.ensures.items in
+    c.copy_from_slice.ensures.after ∙ c.as_flattened.ensures.value ∙ ap (λ ps. flat_map (λ x. x) ps) pairs ∙ flat_map-map (λ x. x) (bytes_of 2) c.args.steps

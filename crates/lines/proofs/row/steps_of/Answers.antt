@@ -1,12 +1,7 @@
-use Rattle.std.proofs.Common.{◌∙◌, arith, length-set}
-use Rattle.lines.proofs.Pairs.{increment_more, increments_whole}
+use Rattle.std.proofs.Common.{rules, ◌∙◌, arith}
+use Rattle.lines.proofs.Arrays.{made_is}
+use Rattle.lines.proofs.Pairs.{pair_at, increments_are}
 use Rattle.lines.proofs.row.steps_of.Goals as goal
 
-pub loop-i-preserved : goal.loop-i-preserved
-loop-i-preserved c = (
-  increment_more c.args.row.now c.loop-i.steps c.loop-i.i _ (omega arith) (omega arith) c.from_be_bytes.ensures ∙ c.loop-i.invariant.0,
-  simp length-set c.loop-i.invariant.1,
-)
-
 pub returns : goal.returns
-returns c = increments_whole c.args.row.now c.loop-i.steps c.loop-i.i (omega arith) (omega arith) ∙ c.loop-i.invariant.0
+returns c = made_is _ _ (pair_at c.args.row.now) (λ i y q k. search rules) _ 7 c.from_fn.ensures.items ∙ increments_are 7 c.args.row.now (omega arith)

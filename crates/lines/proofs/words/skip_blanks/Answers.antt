@@ -1,14 +1,11 @@
-use Rattle.std.proofs.Common.{rules}
-use Rattle.std.proofs.lemmas.List.{at_drop_all, take_rest}
-use Rattle.lines.specs.Words.{skip}
-use Rattle.lines.proofs.Cuts.{skip_on, skip_stops}
+use Rattle.std.proofs.Common.{length, drop, not, sym, ap, ◌∙◌}
+use Rattle.std.specs.Option.{unwrap_or}
+use Rattle.lines.specs.Words.{blank}
+use Rattle.lines.proofs.Cuts.{found_or_len, skip_is}
 use Rattle.lines.proofs.words.skip_blanks.Goals as goal
 
-pub returns-then-not-is_blank : goal.returns-then-not-is_blank
-returns-then-not-is_blank c = search (rules, skip_stops, take_rest)
-
-pub loop-at-preserved : goal.loop-at-preserved
-loop-at-preserved c = search (rules, skip_on)
-
 pub returns : goal.returns
-returns c = search (rules, at_drop_all skip)
+returns c =
+    let text = c.args.text.now in
+    let at = c.unwrap_or.ensures ∙ ap (λ o. unwrap_or o (length text)) c.find_solid.ensures ∙ found_or_len (λ b. not (blank b)) text in
+    c.split_at.ensures.back ∙ ap (λ n. drop n text) at ∙ sym (skip_is text)

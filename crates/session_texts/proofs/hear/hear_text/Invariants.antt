@@ -1,12 +1,14 @@
-use Rattle.std.proofs.Common.{◌≡◌, ◌+◌, ◌≤◌, length}
-use Rattle.session_texts.specs.Lines.{lines_of}
+use Rattle.std.proofs.Common.{◌≡◌, ◌+◌}
 use Rattle.session_texts.specs.Told.{told, heard_all}
 use Rattle.session_texts.specs.Drafts.{records_of}
+use Rattle.session_texts.proofs.Lines.{lines_left}
 use Rattle.session_texts.proofs.hear.hear_text.Given as goal
 
--- what is left decides, and each line took a byte at least
-abbrev pub invariant-loop-draft : goal.invariant-loop-draft
-invariant-loop-draft l = (heard_all l.number (lines_of l.rest) (records_of l.draft) ≡ told l.text) × (l.number + length l.rest ≤ length l.text + 1)
-
-abbrev pub decreases-loop-draft : goal.decreases-loop-draft
-decreases-loop-draft l = length l.rest
+-- what is left decides
+abbrev pub invariant-loop-at : goal.invariant-loop-at
+invariant-loop-at l =
+    record {
+      goes_on : (goal.iterator-loop-at).can_next l.at-iterator;
+      ends : (goal.iterator-loop-at).is_finite l.at-iterator;
+      told : heard_all (l.at-iterator.count + 1) (lines_left l.at-iterator.iter) (records_of l.draft) ≡ told l.text;
+    }
