@@ -32,6 +32,7 @@ pub fn perform<S: PhaseSheet + Drop, B: StepBook + Drop, T: PhaseSheet + Drop, C
 
 /// Makes any calls, one after the other, and answers the reply to each. Whatever calls led to this sale, the run that these
 /// make longer is fair. Where there is no memory for the replies no call is made.
+#[tactic(auto, using(rules::proofs::Runs::stays_fair))]
 pub fn run_calls<
     S: PhaseSheet + Drop,
     B: StepBook + Drop,

@@ -1,8 +1,7 @@
 //! The calls of a sale.
-ghost use Rattle.std.specs.Prelude.{◌≡◌, List};
-ghost use Rattle.rules.specs.Sales.{State, fresh, Call, start, changeover, opening, close, run};
+ghost use Rattle.std.specs.Prelude.{◌≡◌};
+ghost use Rattle.rules.specs.Sales.{fresh, start, changeover, opening, close};
 ghost use Rattle.sale_parts.specs.State.{entering, raising};
-ghost use Rattle.rules.specs.Fair.{StaysFair};
 ghost use Rattle.sales.specs.State.{state_of, Does, GoesOnFairly};
 
 use crate::sale::Sale;
@@ -15,6 +14,8 @@ use sheets::PhaseSheet;
 /// What a call is told: an answer, or why it is refused.
 pub type Reply = Result<Answer, SaleFault>;
 
+// That each call makes a fair run follows from the theorem over every run.
+#[tactic(auto, using(rules::proofs::Runs::stays_fair))]
 impl<S: PhaseSheet + Drop, B: StepBook + Drop> Sale<S, B> {
     /// An unstarted sale: ended, with no seat, no clearing discount and every number 0.
     pub fn new(sheet: S, book: B) -> Sale<S, B>
@@ -25,18 +26,11 @@ impl<S: PhaseSheet + Drop, B: StepBook + Drop> Sale<S, B> {
         }
     }
 
-    // The theorem over every run, at this sale: whatever calls led here, any calls more that follow the rules make a fair run.
-    // It does nothing: each call that begins with it knows the theorem, with no proof of its own.
-    fn runs_on_fairly(&self)
-        ensures { (cs : List Call) (s' : State) → s' ≡ run (state_of S.PhaseSheet B.StepBook self.now) cs → StaysFair (state_of S.PhaseSheet B.StepBook self.now) cs s' }
-    {}
-
     /// Starts the sale with what the deposits buy, and answers the lots on offer.
     pub fn start(&mut self, deposits: &[u32]) -> Reply
         ensures obeys { Does S.PhaseSheet B.StepBook self.old (start deposits.now) result self.new }
         ensures fair { GoesOnFairly S.PhaseSheet B.StepBook self.old (start deposits.now) self.new }
     {
-        self.runs_on_fairly();
         starts::start_sale(&mut self.parts, deposits)
     }
 
@@ -48,7 +42,6 @@ impl<S: PhaseSheet + Drop, B: StepBook + Drop> Sale<S, B> {
         ensures obeys { Does S.PhaseSheet B.StepBook self.old (changeover (state_of T.PhaseSheet C.StepBook first.now)) result self.new }
         ensures fair { GoesOnFairly S.PhaseSheet B.StepBook self.old (changeover (state_of T.PhaseSheet C.StepBook first.now)) self.new }
     {
-        self.runs_on_fairly();
         starts::change_over(&mut self.parts, &first.parts)
     }
 
@@ -57,7 +50,6 @@ impl<S: PhaseSheet + Drop, B: StepBook + Drop> Sale<S, B> {
         ensures obeys { Does S.PhaseSheet B.StepBook self.old (opening row.now) result self.new }
         ensures fair { GoesOnFairly S.PhaseSheet B.StepBook self.old (opening row.now) self.new }
     {
-        self.runs_on_fairly();
         rounds::open_round(&mut self.parts, row)
     }
 
@@ -66,7 +58,6 @@ impl<S: PhaseSheet + Drop, B: StepBook + Drop> Sale<S, B> {
         ensures obeys { Does S.PhaseSheet B.StepBook self.old (entering step) result self.new }
         ensures fair { GoesOnFairly S.PhaseSheet B.StepBook self.old (entering step) self.new }
     {
-        self.runs_on_fairly();
         orders::enter_step(&mut self.parts, step)
     }
 
@@ -75,7 +66,6 @@ impl<S: PhaseSheet + Drop, B: StepBook + Drop> Sale<S, B> {
         ensures obeys { Does S.PhaseSheet B.StepBook self.old (raising raise) result self.new }
         ensures fair { GoesOnFairly S.PhaseSheet B.StepBook self.old (raising raise) self.new }
     {
-        self.runs_on_fairly();
         orders::raise_step(&mut self.parts, raise)
     }
 
@@ -84,7 +74,6 @@ impl<S: PhaseSheet + Drop, B: StepBook + Drop> Sale<S, B> {
         ensures obeys { Does S.PhaseSheet B.StepBook self.old close result self.new }
         ensures fair { GoesOnFairly S.PhaseSheet B.StepBook self.old close self.new }
     {
-        self.runs_on_fairly();
         rounds::close_round(&mut self.parts)
     }
 }
