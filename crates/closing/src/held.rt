@@ -1,5 +1,5 @@
-//! Calls of a book that are not refused: the number is held, and the shares keep the rule. A refusal can't come, and none is
-//! passed on: a closing has none to give for a book.
+//! Calls of a book that are not refused: the number is held, and the shares keep the rule. Each
+//! `unwrap` is proved to find an answer, and tests nothing.
 ghost use Rattle.std.specs.Prelude.{◌≡◌, ◌-◌, ◌≤◌, true, length, Ok, slice_set};
 ghost use Rattle.steps.specs.Rule.{shares_ok, step_ok};
 ghost use Rattle.books.specs.Replies.{at, held, reshared, NextReply};
@@ -13,10 +13,7 @@ pub(crate) fn step_of<B: StepBook>(book: &B, number: u16) -> StepRecord
     ensures same { result ≡ at (B.StepBook.steps book.now) number }
     ensures sound { step_ok result ≡ true }
 {
-    match book.read(number) {
-        Ok(step) => step.stored(),
-        Err(_) => unreachable(),
-    }
+    book.read(number).unwrap().stored()
 }
 
 // Replaces the share figures of the step of that number.
@@ -28,10 +25,7 @@ pub(crate) fn reshare<B: StepBook>(book: &mut B, number: u16, shares: Shares)
     ensures beyond { B.StepBook.beyond book.new ≡ B.StepBook.beyond book.old }
     ensures steps { B.StepBook.steps book.new ≡ slice_set (B.StepBook.steps book.old) (number - 1) (reshared (at (B.StepBook.steps book.old) number) shares) }
 {
-    match book.set(number, shares) {
-        Ok(()) => (),
-        Err(_) => unreachable(),
-    }
+    book.set(number, shares).unwrap()
 }
 
 // The number of the market's first step that ranks behind the one of the given number, or behind the top for 0.
@@ -39,8 +33,5 @@ pub(crate) fn next_of<B: StepBook>(book: &B, market: u8, number: u16) -> Option<
     requires { number ≤ length (B.StepBook.steps book.now) }
     ensures { NextReply (B.StepBook.steps book.now) market number (Ok result) }
 {
-    match book.next(market, number) {
-        Ok(answer) => answer,
-        Err(_) => unreachable(),
-    }
+    book.next(market, number).unwrap()
 }
