@@ -74,6 +74,7 @@ impl Seats {
     }
 
     // Cuts the account of the row at the place, where there is one.
+    #[tactic(auto, using(crate::proofs::Accounts::row_cut))]
     fn cut_at(&mut self, place: usize, by: u32)
         ensures { seated self.new ≡ slice_set (seated self.old) place (cut_by by (slice_index_or (seated self.old) place nobody)) }
     {
