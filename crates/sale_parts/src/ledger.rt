@@ -3,7 +3,7 @@ use accounts::Seats;
 
 /// The figures of a sale. Increments and clearing discounts have seven places, that of market m at m - 1: two tables, since an
 /// opening writes the one whole and a closing the other.
-#[derive(Drop)]
+#[derive(Clone, Drop)]
 pub struct Ledger {
     pub lots: u8,
     pub round: u64,
