@@ -7,6 +7,8 @@ ghost use Rattle.books.specs.Replies.{at, held, reshared, NextReply};
 use books::StepBook;
 use steps::{Shares, StepRecord};
 
+// That a number is held is asked of four functions: a type for such a number would have to keep its book lent.
+
 // The step of that number.
 pub(crate) fn step_of<B: StepBook>(book: &B, number: u16) -> StepRecord
     requires { held (B.StepBook.steps book.now) number ≡ true }
