@@ -39,12 +39,12 @@ fn settle<S: PhaseSheet + Drop, B: StepBook + Drop>(sale: &mut SaleParts<S, B>) 
         sale.ledger.round,
         &mut sale.ledger.seats,
     );
-    let rejected = shares_losing(&sale.book);
+    let rejected = shares_losing(&sale.book) as u64;
     reject_losing(&mut sale.book);
     sale.ledger.clearing = hand_out(&mut sale.book, sale.ledger.lots);
     sale.ledger.opened = false;
     sale.ledger.ended = ended;
-    Answer::Closed(rejected as u64, ended)
+    Answer::Closed { rejected, ended }
 }
 
 // Whether a closing now ends the sale: past the opening rounds, and nobody raised in the round.

@@ -1,8 +1,13 @@
 //! What an accepted call answers.
 
-/// A number (lots, a round or a step), or of a closing the shares rejected and whether the sale ended.
+/// What a call is told: a number (lots, a round or a step), or what a closing did.
 #[derive(Clone, Copy, PartialEq, Eq, Debug)]
 pub enum Answer {
     Told(u64),
-    Closed(u64, bool),
+    Closed {
+        /// How many shares were rejected.
+        rejected: u64,
+        /// Whether the sale ended.
+        ended: bool,
+    },
 }

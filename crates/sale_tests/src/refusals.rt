@@ -140,7 +140,13 @@ fn raises<B: StepBook + Drop>(rt: &impl Abort, book: B) {
     assert_eq!(rt; sale.open(&[100]), Ok(Answer::Told(1)));
     assert_eq!(rt; sale.enter(offer(1, 1, 60, 400, 5)), Ok(Answer::Told(1)));
     assert_eq!(rt; sale.enter(offer(2, 1, 60, 300, 6)), Ok(Answer::Told(2)));
-    assert_eq!(rt; sale.close(), Ok(Answer::Closed(0, false)));
+    assert_eq!(rt;
+        sale.close(),
+        Ok(Answer::Closed {
+            rejected: 0,
+            ended: false
+        })
+    );
     assert_eq!(rt;
         sale.raise(raise(3, 0, 0, 10_001, 5)),
         Err(SaleFault::RoundShut)
@@ -227,9 +233,21 @@ fn changes<B: StepBook + Drop, C: StepBook + Drop>(rt: &impl Abort, one: B, othe
     assert_eq!(rt; second.changeover(&first), Err(SaleFault::FirstGoing));
     assert_eq!(rt; first.open(&[0]), Ok(Answer::Told(1)));
     assert_eq!(rt; first.enter(offer(1, 1, 60, 0, 0)), Ok(Answer::Told(1)));
-    assert_eq!(rt; first.close(), Ok(Answer::Closed(0, false)));
+    assert_eq!(rt;
+        first.close(),
+        Ok(Answer::Closed {
+            rejected: 0,
+            ended: false
+        })
+    );
     assert_eq!(rt; first.open(&[0]), Ok(Answer::Told(2)));
-    assert_eq!(rt; first.close(), Ok(Answer::Closed(0, true)));
+    assert_eq!(rt;
+        first.close(),
+        Ok(Answer::Closed {
+            rejected: 0,
+            ended: true
+        })
+    );
     assert_eq!(rt; first.changeover(&second), Err(SaleFault::FirstMarkets));
     assert_eq!(rt; second.changeover(&first), Ok(Answer::Told(40)));
     assert_eq!(rt; second.changeover(&first), Err(SaleFault::Taken));
@@ -243,7 +261,13 @@ fn owes_half<B: StepBook + Drop>(rt: &impl Abort, book: B) {
     assert_eq!(rt; sale.open(&[0; 2]), Ok(Answer::Told(1)));
     assert_eq!(rt; sale.enter(offer(1, 3, 1, 0, 0)), Err(SaleFault::NoMarket));
     assert_eq!(rt; sale.enter(offer(1, 1, 1, 0, 0)), Ok(Answer::Told(1)));
-    assert_eq!(rt; sale.close(), Ok(Answer::Closed(0, false)));
+    assert_eq!(rt;
+        sale.close(),
+        Ok(Answer::Closed {
+            rejected: 0,
+            ended: false
+        })
+    );
     assert_eq!(rt;
         sale.account(1),
         Ok(Account {
