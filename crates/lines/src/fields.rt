@@ -27,6 +27,7 @@ fn number(word: &[u8], field: u8, most: u64) -> Result<u64, LineFault>
     if !all_digits(word) {
         return Err(LineFault::NotANumber(field));
     }
+    // Digits are text.
     match str::from_utf8(word).unwrap().parse::<u64>() {
         Ok(number) if number <= most => Ok(number),
         _ => Err(LineFault::TooLarge(field, most)),

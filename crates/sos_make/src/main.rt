@@ -3,18 +3,26 @@
 
 use programs::run;
 use session_texts::make_session;
+use std::alloc::Global;
 use std::io::{Read, Write};
 use std::process::ExitCode;
 
 // Nothing is written unless every line was taken.
-fn make(rt: &HostRuntime) -> anyhow::Result<()> {
-    let mut text = Vec::new(rt.alloc());
-    rt.stdin().read_to_end(&mut text)?;
-    let file = make_session(rt.alloc(), &text)?;
-    rt.stdout().write_all(&file)?;
+fn make(
+    heap: Global,
+    mut input: impl Read + Drop,
+    mut output: impl Write + Drop,
+) -> anyhow::Result<()> {
+    let mut text = Vec::new(heap);
+    input.read_to_end(&mut text)?;
+    output.write_all(&make_session(heap, &text)?)?;
     Ok(())
 }
 
 fn main(rt: HostRuntime) -> ExitCode {
-    run(&rt, "sos-make", || make(&rt))
+    run(
+        &rt,
+        "sos-make",
+        || make(rt.alloc(), rt.stdin(), rt.stdout()),
+    )
 }
