@@ -4,7 +4,7 @@ use Rattle.std.proofs.lemmas.List.{get_or-map, map-set}
 use Rattle.rules.specs.Sales.{nobody}
 use Rattle.accounts.specs.declared.account.SeatAccount.{SeatAccount}
 use Rattle.accounts.specs.Accounts.{cut_by}
-use Rattle.accounts.specs.Seated.{plain_of}
+use Rattle.accounts.specs.Rows.{plain_of}
 
 -- the row at the place, which was x, with its account cut
 pub row_cut : (rows : List SeatAccount) (place by : ℕ) (x row : SeatAccount) → place < length rows → x ≡ get_or rows place x → row.account ≡ cut_by by x.account

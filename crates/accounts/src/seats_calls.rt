@@ -2,7 +2,7 @@
 ghost use Rattle.std.specs.Prelude.{◌≡◌, ◌-◌, ◌≤◌, true, false, [], map, length, get_or, take, MatchOption, nat_lt, slice_index_or, slice_set};
 ghost use Rattle.rules.specs.Sales.{nobody, dollars, outside};
 ghost use Rattle.accounts.specs.Accounts.{with_opened, with_cut, cut_by};
-ghost use Rattle.accounts.specs.Seated.{seated};
+ghost use Rattle.accounts.specs.Rows.{plain_of};
 
 use crate::account::SeatAccount;
 use crate::seats::{MOST_SEATS, Seats};
@@ -12,7 +12,7 @@ use rules::Account;
 impl Seats {
     /// No seats yet.
     pub fn none() -> Seats
-        ensures { seated result ≡ [] }
+        ensures { result ≡ [] }
     {
         Seats {
             rows: ArrayVec::new(),
@@ -22,7 +22,7 @@ impl Seats {
     /// The accounts that deposits buy, the first seat's first: each deposit's dollars over 500, rounded down. Past 24
     /// no deposit is read.
     pub fn of_deposits(deposits: &[u32]) -> Seats
-        ensures { seated result ≡ map dollars (take 24 deposits.now) }
+        ensures { result ≡ map dollars (take 24 deposits.now) }
     {
         let mut seats = Seats::none();
         for dollars in &deposits[..deposits.len().min(MOST_SEATS)] {
@@ -33,7 +33,7 @@ impl Seats {
 
     /// How many seats there are.
     pub fn count(&self) -> usize
-        ensures count { result ≡ length (seated self.now) }
+        ensures count { result ≡ length self.now }
         ensures most { result ≤ 24 }
     {
         self.rows.len()
@@ -41,7 +41,7 @@ impl Seats {
 
     /// The account of the seat, or none where there is no such seat.
     pub fn account(&self, seat: u8) -> Option<Account>
-        ensures { MatchOption result (outside seat (length (seated self.now)) ≡ true) (λ a. (outside seat (length (seated self.now)) ≡ false) × (a ≡ slice_index_or (seated self.now) (seat - 1) nobody)) }
+        ensures { MatchOption result (outside seat (length self.now) ≡ true) (λ a. (outside seat (length self.now) ≡ false) × (a ≡ slice_index_or self.now (seat - 1) nobody)) }
     {
         let place = usize::from(seat).checked_sub(1)?;
         let row = self.rows.as_slice().get(place)?;
@@ -50,7 +50,7 @@ impl Seats {
 
     /// What the seat is eligible for now, and 0 where there is no such seat.
     pub fn eligible(&self, seat: u8) -> u32
-        ensures seat { 1 ≤ seat → result ≡ (get_or (seated self.now) (seat - 1) nobody).eligible }
+        ensures seat { 1 ≤ seat → result ≡ (get_or self.now (seat - 1) nobody).eligible }
         ensures none { seat ≡ 0 → result ≡ 0 }
     {
         self.account(seat).map_or(0, |account| account.eligible)
@@ -58,28 +58,28 @@ impl Seats {
 
     /// Adds a seat that has bought so much eligibility, and tells whether there was room for it.
     pub fn open_account(&mut self, bought: u32) -> bool
-        ensures room { result ≡ nat_lt (length (seated self.old)) 24 }
-        ensures after { seated self.new ≡ with_opened bought (seated self.old) }
+        ensures room { result ≡ nat_lt (length self.old) 24 }
+        ensures after { self.new ≡ with_opened bought self.old }
     {
         self.rows.try_push(SeatAccount::opened(bought)).is_ok()
     }
 
     /// Cuts the eligibility of the seat, to nothing at most. Nothing changes where there is no such seat.
     pub fn cut(&mut self, seat: u8, by: u32)
-        ensures { seated self.new ≡ with_cut seat by (seated self.old) }
+        ensures { self.new ≡ with_cut seat by self.old }
     {
         if let Some(place) = usize::from(seat).checked_sub(1) {
-            self.cut_at(place, by);
+            cut_row(&mut self.rows, place, by);
         }
     }
+}
 
-    // Cuts the account of the row at the place, where there is one.
-    #[tactic(auto, using(crate::proofs::Accounts::row_cut))]
-    fn cut_at(&mut self, place: usize, by: u32)
-        ensures { seated self.new ≡ slice_set (seated self.old) place (cut_by by (slice_index_or (seated self.old) place nobody)) }
-    {
-        if let Some(row) = self.rows.get_mut(place) {
-            row.cut(by);
-        }
+// Cuts the account of the row at the place, where there is one.
+#[tactic(auto, using(crate::proofs::Accounts::row_cut))]
+fn cut_row(rows: &mut ArrayVec<SeatAccount, MOST_SEATS>, place: usize, by: u32)
+    ensures { map plain_of rows.new.items ≡ slice_set (map plain_of rows.old.items) place (cut_by by (slice_index_or (map plain_of rows.old.items) place nobody)) }
+{
+    if let Some(row) = rows.get_mut(place) {
+        row.cut(by);
     }
 }

@@ -1,6 +1,5 @@
 //! The closing of a round.
 ghost use Rattle.std.specs.Prelude.{◌≡◌, ◌-◌, ◌≤◌, slice_index_or};
-ghost use Rattle.accounts.specs.Seated.{seated};
 ghost use Rattle.rules.specs.Lists.{each_with};
 ghost use Rattle.rules.specs.Sales.{nobody, owed as owed_of, ends as sale_ends, close, answer};
 ghost use Rattle.rules.specs.Books.{weighted, standing_of};
@@ -64,7 +63,7 @@ fn owed<S: PhaseSheet>(sheet: &S, round: u64, eligible: u32) -> u32
 
 // Cuts each seat's eligibility by what it owes and hasn't standing, one account at a time.
 fn cut_seats<S: PhaseSheet, B: StepBook>(sheet: &S, book: &B, round: u64, seats: &mut Seats)
-    ensures { seated seats.new ≡ each_with (closed_account (S.PhaseSheet.figures sheet.now) round (B.StepBook.steps book.now)) 1 (seated seats.old) }
+    ensures { seats.new ≡ each_with (closed_account (S.PhaseSheet.figures sheet.now) round (B.StepBook.steps book.now)) 1 seats.old }
 {
     for seat in 1..=seats.count() as u8 {
         let by = lacking(sheet, book, round, seat, seats);
@@ -82,7 +81,7 @@ fn lacking<S: PhaseSheet, B: StepBook>(
     seats: &Seats,
 ) -> u32
     requires { 1 ≤ seat }
-    ensures { result ≡ owed_of (S.PhaseSheet.figures sheet.now) round (slice_index_or (seated seats.now) (seat - 1) nobody).eligible - weighted (S.PhaseSheet.figures sheet.now).weight seat standing_of (B.StepBook.steps book.now) }
+    ensures { result ≡ owed_of (S.PhaseSheet.figures sheet.now) round (slice_index_or seats.now (seat - 1) nobody).eligible - weighted (S.PhaseSheet.figures sheet.now).weight seat standing_of (B.StepBook.steps book.now) }
 {
     let owes = owed(sheet, round, seats.eligible(seat));
     owes.saturating_sub(standing_weight(sheet, book, seat))

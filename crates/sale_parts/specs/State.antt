@@ -2,7 +2,6 @@
 use Rattle.std.specs.Prelude.{◌≡◌, ℕ, Bool, ◌&&◌, Ok, Err, Result}
 use Rattle.sheets.specs.declared.sheet.PhaseSheet.{Ghosts as SheetGhosts}
 use Rattle.books.specs.declared.book.StepBook.{Ghosts as BookGhosts}
-use Rattle.accounts.specs.Seated.{seated}
 use Rattle.rules.specs.declared.answer.Answer.{Answer}
 use Rattle.rules.specs.declared.fault.SaleFault.{SaleFault}
 use Rattle.rules.specs.declared.fault.SaleFault.TheVariants.{Book}
@@ -28,7 +27,7 @@ state_of sheet book s = record {
   clearing = s.ledger.clearing;
   raised = s.ledger.raised;
   last_stamp = s.ledger.last_stamp;
-  accounts = seated s.ledger.seats;
+  accounts = s.ledger.seats;
 }
 
 -- a call answers r and leaves s' of s, as the rules say

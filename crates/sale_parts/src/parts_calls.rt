@@ -1,6 +1,5 @@
 //! A sale's parts as they are made, and what several calls ask of them.
 ghost use Rattle.std.specs.Prelude.{◌≡◌};
-ghost use Rattle.accounts.specs.Seated.{seated};
 ghost use Rattle.rules.specs.Parts.{begun};
 ghost use Rattle.rules.specs.Sales.{fresh, taken as is_taken, outside as is_outside};
 ghost use Rattle.sale_parts.specs.State.{state_of};
@@ -51,7 +50,7 @@ impl<S: PhaseSheet + Drop, B: StepBook + Drop> SaleParts<S, B> {
 
     /// The sale begins with these lots and seats.
     pub fn begin(&mut self, lots: u8, seats: Seats)
-        ensures { state_of S.PhaseSheet B.StepBook self.new ≡ begun (state_of S.PhaseSheet B.StepBook self.old) lots (seated seats) }
+        ensures { state_of S.PhaseSheet B.StepBook self.new ≡ begun (state_of S.PhaseSheet B.StepBook self.old) lots seats }
     {
         self.ledger.lots = lots;
         self.ledger.seats = seats;

@@ -1,6 +1,5 @@
 //! The changeover: a sale starts with what an ended first one left.
 ghost use Rattle.std.specs.Prelude.{◌≡◌, ◌-◌, ◌≤◌};
-ghost use Rattle.accounts.specs.Seated.{seated};
 ghost use Rattle.rules.specs.Sales.{account, carried, changeover, verdict};
 ghost use Rattle.rules.specs.Parts.{unsold, left_to};
 ghost use Rattle.sale_parts.specs.State.{state_of, Tested, Does};
@@ -69,7 +68,7 @@ fn bought_left<S: PhaseSheet + Drop, B: StepBook + Drop>(sale: &SaleParts<S, B>,
 
 // The accounts that a later sale starts with.
 fn seats_left<S: PhaseSheet + Drop, B: StepBook + Drop>(sale: &SaleParts<S, B>) -> Seats
-    ensures { seated result ≡ carried (state_of S.PhaseSheet B.StepBook sale.now) 1 (seated sale.now.ledger.seats) }
+    ensures { result ≡ carried (state_of S.PhaseSheet B.StepBook sale.now) 1 sale.now.ledger.seats }
 {
     let mut seats = Seats::none();
     for seat in 1..=sale.ledger.seats.count() as u8 {
