@@ -7,4 +7,4 @@ mod seats;
 mod seats_calls;
 
 pub use account::SeatAccount;
-pub use seats::{MOST_SEATS, Seats};
+pub use seats::{MOST_SEATS, NoSeatLeft, Seats};

@@ -6,6 +6,10 @@ use std::marker::Model;
 /// The most seats that a sale can have.
 pub const MOST_SEATS: usize = 24;
 
+/// A sale has as many seats as it can have.
+#[derive(Clone, Copy, PartialEq, Eq, Debug)]
+pub struct NoSeatLeft;
+
 /// The accounts of up to 24 seats, that of seat k at place k - 1; contracts see their list. They lie in the value itself, so
 /// that no call wants memory.
 #[derive(Clone, Drop)]

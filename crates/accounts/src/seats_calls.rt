@@ -1,11 +1,11 @@
 //! The calls of the table of accounts.
-ghost use Rattle.std.specs.Prelude.{◌≡◌, ◌-◌, ◌≤◌, true, false, [], map, length, get_or, take, MatchOption, nat_lt, slice_index_or, slice_set};
+ghost use Rattle.std.specs.Prelude.{◌≡◌, ◌-◌, ◌≤◌, true, false, [], map, length, get_or, take, MatchOption, is_ok, nat_lt, slice_index_or, slice_set};
 ghost use Rattle.rules.specs.Sales.{nobody, dollars, outside};
 ghost use Rattle.accounts.specs.Accounts.{with_opened, with_cut, cut_by};
 ghost use Rattle.accounts.specs.Rows.{plain_of};
 
 use crate::account::SeatAccount;
-use crate::seats::{MOST_SEATS, Seats};
+use crate::seats::{MOST_SEATS, NoSeatLeft, Seats};
 use arrayvec::ArrayVec;
 use rules::Account;
 
@@ -24,9 +24,10 @@ impl Seats {
     pub fn of_deposits(deposits: &[u32]) -> Seats
         ensures { result ≡ map dollars (take 24 deposits.now) }
     {
+        // No more than 24 are opened, which is proved: `unwrap` tests nothing.
         let mut seats = Seats::none();
         for dollars in &deposits[..deposits.len().min(MOST_SEATS)] {
-            seats.open_account(*dollars / 500);
+            seats.open_account(*dollars / 500).unwrap();
         }
         seats
     }
@@ -56,12 +57,13 @@ impl Seats {
         self.account(seat).map_or(0, |account| account.eligible)
     }
 
-    /// Adds a seat that has bought so much eligibility, and tells whether there was room for it.
-    pub fn open_account(&mut self, bought: u32) -> bool
-        ensures room { result ≡ nat_lt (length self.old) 24 }
+    /// Adds a seat that has bought so much eligibility, unless there are 24.
+    pub fn open_account(&mut self, bought: u32) -> Result<(), NoSeatLeft>
+        ensures room { is_ok result ≡ nat_lt (length self.old) 24 }
         ensures after { self.new ≡ with_opened bought self.old }
     {
-        self.rows.try_push(SeatAccount::opened(bought)).is_ok()
+        let opened = self.rows.try_push(SeatAccount::opened(bought));
+        opened.map_err(|_| NoSeatLeft)
     }
 
     /// Cuts the eligibility of the seat, to nothing at most. Nothing changes where there is no such seat.

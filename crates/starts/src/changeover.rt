@@ -66,13 +66,13 @@ fn bought_left<S: PhaseSheet + Drop, B: StepBook + Drop>(sale: &SaleParts<S, B>,
     account.map_or(0, |account| account.bought.saturating_sub(spent))
 }
 
-// The accounts that a later sale starts with.
+// The accounts that a later sale starts with: no more than the first one has, so that `unwrap` is proved and tests nothing.
 fn seats_left<S: PhaseSheet + Drop, B: StepBook + Drop>(sale: &SaleParts<S, B>) -> Seats
     ensures { result ≡ carried (state_of S.PhaseSheet B.StepBook sale.now) 1 sale.now.ledger.seats }
 {
     let mut seats = Seats::none();
     for seat in 1..=sale.ledger.seats.count() as u8 {
-        seats.open_account(bought_left(sale, seat));
+        seats.open_account(bought_left(sale, seat)).unwrap();
     }
     seats
 }
