@@ -10,7 +10,7 @@ use accounts::Seats;
 use books::StepBook;
 use closing::{hand_out, reject_losing};
 use rules::{Answer, SaleFault};
-use sale_parts::SaleParts;
+use sale_parts::{SaleParts, Stage};
 use sheets::PhaseSheet;
 use sums::{shares_losing, standing_weight};
 
@@ -20,7 +20,7 @@ pub fn close_round<S: PhaseSheet + Drop, B: StepBook + Drop>(
 ) -> Result<Answer, SaleFault>
     ensures { Does S.PhaseSheet B.StepBook sale.old close result sale.new }
 {
-    if !sale.ledger.opened {
+    if !sale.ledger.stage.is_open() {
         return Err(SaleFault::RoundShut);
     }
     Ok(settle(sale))
@@ -41,8 +41,7 @@ fn settle<S: PhaseSheet + Drop, B: StepBook + Drop>(sale: &mut SaleParts<S, B>) 
     let rejected = shares_losing(&sale.book) as u64;
     reject_losing(&mut sale.book);
     sale.ledger.clearing = hand_out(&mut sale.book, sale.ledger.lots);
-    sale.ledger.opened = false;
-    sale.ledger.ended = ended;
+    sale.ledger.stage = if ended { Stage::Ended } else { Stage::Shut };
     Answer::Closed { rejected, ended }
 }
 

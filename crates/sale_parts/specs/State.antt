@@ -12,6 +12,7 @@ use Rattle.steps.specs.declared.fault.BookFault.TheVariants.{Full}
 use Rattle.rules.specs.Sales.{State, Verdict, passed, failed, unless, Call, enter, raise, verdict, reply, after}
 use Rattle.rules.specs.Parts.{book_full}
 use Rattle.sale_parts.specs.declared.parts.SaleParts.{SaleParts}
+use Rattle.sale_parts.specs.Stages.{is_open, has_ended}
 
 -- the state that the rules speak of: the sheet's figures, the book's size and steps, and the ledger
 abbrev pub state_of : {S B : Type 0} → SheetGhosts S → BookGhosts B → SaleParts S B → State
@@ -21,8 +22,8 @@ state_of sheet book s = record {
   steps = book.steps s.book;
   lots = s.ledger.lots;
   round = s.ledger.round;
-  opened = s.ledger.opened;
-  ended = s.ledger.ended;
+  opened = is_open s.ledger.stage;
+  ended = has_ended s.ledger.stage;
   increments = s.ledger.increments;
   clearing = s.ledger.clearing;
   raised = s.ledger.raised;

@@ -1,4 +1,5 @@
 //! What a sale keeps besides its sheet and its book.
+use crate::stage::Stage;
 use accounts::Seats;
 
 /// The figures of a sale. Increments and clearing discounts have seven places, that of market m at m - 1: two tables, since an
@@ -7,9 +8,7 @@ use accounts::Seats;
 pub struct Ledger {
     pub lots: u8,
     pub round: u64,
-    // Two flags, as the rules have them: each is asked for by itself, and a sale can be neither open nor ended.
-    pub opened: bool,
-    pub ended: bool,
+    pub stage: Stage,
     /// Whether a raise was accepted in this round.
     pub raised: bool,
     pub last_stamp: u64,

@@ -6,6 +6,7 @@ ghost use Rattle.sale_parts.specs.State.{state_of};
 
 use crate::ledger::Ledger;
 use crate::parts::SaleParts;
+use crate::stage::Stage;
 use accounts::Seats;
 use books::StepBook;
 use sheets::PhaseSheet;
@@ -25,8 +26,7 @@ impl<S: PhaseSheet + Drop, B: StepBook + Drop> SaleParts<S, B> {
         let ledger = Ledger {
             lots: 0,
             round: 0,
-            opened: false,
-            ended: true,
+            stage: Stage::Ended,
             raised: false,
             last_stamp: 0,
             increments: [0; 7],
@@ -54,6 +54,8 @@ impl<S: PhaseSheet + Drop, B: StepBook + Drop> SaleParts<S, B> {
     {
         self.ledger.lots = lots;
         self.ledger.seats = seats;
-        self.ledger.ended = false;
+        if self.ledger.stage.has_ended() {
+            self.ledger.stage = Stage::Shut;
+        }
     }
 }

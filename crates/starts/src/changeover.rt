@@ -34,7 +34,7 @@ fn may_change_over<
 >(sale: &SaleParts<S, B>, first: &SaleParts<T, C>) -> Result<(), SaleFault>
     ensures { Tested (verdict (state_of S.PhaseSheet B.StepBook sale.now) (changeover (state_of T.PhaseSheet C.StepBook first.now))) result }
 {
-    if !first.ledger.ended {
+    if !first.ledger.stage.has_ended() {
         return Err(SaleFault::FirstGoing);
     }
     if first.sheet.market_count() > 1 {
