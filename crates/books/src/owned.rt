@@ -4,7 +4,8 @@ ghost use Rattle.books.specs.Lawful.{SoundBelow};
 
 use steps::StepRecord;
 
-/// The steps are the rows, in order of entry. All memory is there from the start, so that no put fails for want of it.
+/// The steps are the rows, in order of entry, `size` at most. All memory is there from the start, so that no put fails for
+/// want of it.
 #[derive(Drop)]
 pub struct VecBook {
     pub(crate) rows: Vec<StepRecord>,

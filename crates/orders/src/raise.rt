@@ -23,7 +23,7 @@ pub fn raise_step<S: PhaseSheet + Drop, B: StepBook + Drop>(
     move_shares(sale, raise, step)
 }
 
-// The tests of a raise, but for a full book, which the book itself tells; and the step that is raised.
+// The tests of a raise, in its own order, which has those that a new step has too between others; but for a full book, which the book itself tells; and the step that is raised.
 fn may_raise<S: PhaseSheet + Drop, B: StepBook + Drop>(
     sale: &SaleParts<S, B>,
     raise: Raise,
@@ -54,9 +54,7 @@ fn may_raise<S: PhaseSheet + Drop, B: StepBook + Drop>(
         return Err(SaleFault::StampBehind);
     }
     let place = step.bid.market as usize - 1;
-    let Some(clearing) = sale.ledger.clearing[place] else {
-        return Err(SaleFault::NoClearing);
-    };
+    let clearing = sale.ledger.clearing[place].ok_or(SaleFault::NoClearing)?;
     if is_low(
         clearing,
         sale.ledger.increments[place],
@@ -95,7 +93,7 @@ fn move_shares<S: PhaseSheet + Drop, B: StepBook + Drop>(
     Ok(Answer::Told(entered as u64))
 }
 
-// Takes shares out of the step, its losing ones first. What remains keeps number, discount and stamp.
+// The four meet only here. Takes shares out of the step, its losing ones first. What remains keeps number, discount and stamp.
 fn take_out<B: StepBook>(book: &mut B, step: StepRecord, number: u16, shares: u8)
     requires step { step ≡ at (B.StepBook.steps book.old) number }
     requires held { held (B.StepBook.steps book.old) number ≡ true }

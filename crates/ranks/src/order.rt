@@ -49,6 +49,7 @@ pub fn next_in_order<R: Ranked>(list: &[R], group: u8, behind: Option<usize>) ->
     ensures first { FirstBehind R.Ranked.group R.Ranked.precedes list.now group behind result }
     ensures only { (other : Answer ℕ) → FirstBehind R.Ranked.group R.Ranked.precedes list.now group behind other → other ≡ result }
 {
+    // A `match`: `?` leaves for a place past the end.
     let start = match behind {
         Some(place) => Some(list.get(place)?),
         None => None,

@@ -72,6 +72,7 @@ fn padded(row: &[u16]) -> [u16; 7]
     ensures { result ≡ padded_row row.now }
 {
     let mut increments = [0; 7];
+    // By index: `array::from_fn` says it shorter, but takes a proof three times as long.
     for (place, given) in row.iter().enumerate() {
         increments[place] = increment_of(*given);
     }

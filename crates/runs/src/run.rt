@@ -20,6 +20,7 @@ pub fn perform<S: PhaseSheet + Drop, B: StepBook + Drop, T: PhaseSheet + Drop, C
     ensures obeys { Does S.PhaseSheet B.StepBook sale.old (call_of T.PhaseSheet C.StepBook call.now) result sale.new }
     ensures fair { GoesOnFairly S.PhaseSheet B.StepBook sale.old (call_of T.PhaseSheet C.StepBook call.now) sale.new }
 {
+    // A `match`: calls are values that are kept and handed on in lists, not steps to run.
     match call {
         Call::Start(deposits) => sale.start(deposits),
         Call::Changeover(first) => sale.changeover(first),

@@ -57,6 +57,7 @@ fn lots_left<S: PhaseSheet + Drop, B: StepBook + Drop>(sale: &SaleParts<S, B>) -
 }
 
 // What a seat bought less its winnings, each share times the weight of the one market.
+#[tactic(auto, using(crate::proofs::Carried::nothing_left))]
 fn bought_left<S: PhaseSheet + Drop, B: StepBook + Drop>(sale: &SaleParts<S, B>, seat: u8) -> u32
     requires { 1 ≤ seat }
     ensures { result ≡ left_to (state_of S.PhaseSheet B.StepBook sale.now) seat (account (state_of S.PhaseSheet B.StepBook sale.now) (seat - 1)) }

@@ -3,10 +3,10 @@ ghost use Rattle.std.specs.Prelude.{◌≡◌, ◌≤◌, map, length, OnOk};
 ghost use Rattle.rules.specs.Sales.{dollars, start, verdict};
 ghost use Rattle.sale_parts.specs.State.{state_of, Tested, Does};
 
-use accounts::Seats;
+use accounts::{MOST_SEATS, Seats};
 use books::StepBook;
 use rules::{Answer, SaleFault};
-use sale_parts::SaleParts;
+use sale_parts::{SaleParts, outside};
 use sheets::PhaseSheet;
 use sums::first_above;
 
@@ -37,7 +37,7 @@ fn may_start<S: PhaseSheet + Drop, B: StepBook + Drop>(
     ensures few { OnOk result (length deposits.now ≤ 24) }
 {
     let count = deposits.len();
-    if count == 0 || count > 24 {
+    if outside(count, MOST_SEATS) {
         return Err(SaleFault::SeatCount(count));
     }
     if let Some(place) = first_above(deposits, MOST_DEPOSIT) {

@@ -1,5 +1,5 @@
 //! The first of a list of numbers that is above a bound.
-ghost use Rattle.std.specs.Prelude.{◌≡◌, ℕ, nat_lt};
+ghost use Rattle.std.specs.Prelude.{◌≡◌, ℕ, nat_lt, position};
 ghost use Rattle.sums.specs.Above.{FirstAbove};
 
 /// A number, whatever its width: deposits have 32 bits and increments 16.
@@ -34,15 +34,16 @@ impl Number for u32 {
     }
 }
 
+// Where the first number above the most stands.
+fn find_above<N: Number>(numbers: &[N], most: u64) -> Option<usize>
+    ensures { result ≡ position (λ n. nat_lt most (N.Number.value n)) numbers.now }
+{
+    numbers.iter().position(|number| number.is_above(most))
+}
+
 /// The place of the first number above the most, or none where each is within it.
 pub fn first_above<N: Number>(numbers: &[N], most: u64) -> Option<usize>
     ensures { FirstAbove N.Number.value most numbers.now result }
 {
-    // `position` would need a function of its own: what it answers is known where a contract says just that.
-    for (place, number) in numbers.iter().enumerate() {
-        if number.is_above(most) {
-            return Some(place);
-        }
-    }
-    None
+    find_above(numbers, most)
 }

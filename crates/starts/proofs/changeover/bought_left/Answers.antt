@@ -1,6 +1,4 @@
-use Rattle.std.proofs.Common.{◌≤◌, mul-le-mul, arith, rules}
-use Rattle.starts.proofs.Carried.{nothing_left}
-use Rattle.sale_parts.specs.State.{state_of}
+use Rattle.std.proofs.Common.{◌≤◌, mul-le-mul, arith}
 use Rattle.starts.proofs.changeover.bought_left.Goals as goal
 
 pub overflow_mul-spent : goal.overflow_mul-spent
@@ -8,8 +6,3 @@ overflow_mul-spent g c =
     let light = (g.met.S.PhaseSheet.lawful c.args.sale.now.sheet).light 1 in
     let w : c.weight.result ≤ 400 = omega (arith, c.weight.ensures, light) in
     omega (arith, mul-le-mul w c.shares_won_by.ensures.most)
-
-pub returns : goal.returns
-returns g c =
-    let none = nothing_left (state_of g.S.PhaseSheet g.B.StepBook c.args.sale.now) c.args.seat c.requires in
-    search rules
