@@ -20,6 +20,8 @@ const MOST_32: u64 = u32::MAX as u64;
 
 const MOST_64: u64 = u64::MAX;
 
+// One function for each kind of line: they share `read_fields`, and differ in what they make of the numbers.
+
 // DOLLARS
 fn deposit(text: &[u8]) -> Result<Line, LineFault>
     ensures { kept_as result ≡ filled deposit_of (fields deposit_limits 1 text.now) }

@@ -33,7 +33,7 @@ fn record_in(reader: &Reader, section: Section, number: usize) -> Result<Line, F
     }
 }
 
-// The line of the record of this number, or a remark in its place.
+// The line of the record of this number, or a remark in its place. The four parameters meet only here.
 fn record_line(
     heap: Global,
     reader: &Reader,
@@ -42,6 +42,7 @@ fn record_line(
 ) -> Result<String, AllocError>
     ensures { IfOk result (λ s. string_bytes s ≡ record_line section (lent reader.now) number) }
 {
+    // A `match`, since both outcomes go on.
     match record_in(reader, section, number) {
         Ok(line) => format!(in heap; "{line}"),
         Err(fault) => {
@@ -84,6 +85,7 @@ fn refused(heap: Global, fault: FileFault) -> Result<String, AllocError>
 pub fn list_session(heap: Global, bytes: &[u8]) -> Result<String, AllocError>
     ensures { IfOk result (λ s. string_bytes s ≡ listed bytes.now) }
 {
+    // A `match`, since both outcomes go on.
     match Reader::of_input(bytes) {
         Ok(reader) => all_lines(heap, &reader),
         Err(fault) => refused(heap, fault),

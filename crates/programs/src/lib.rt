@@ -17,6 +17,7 @@ pub fn run<F: FnOnce() -> anyhow::Result<()>>(rt: &impl Eprint, name: &str, prog
     requires { F.IsAlwaysCallable program }
     ensures { (outcome : _) × F.post program outcome × (exit_status result ≡ status_of outcome) }
 {
+    // A `match`, since both outcomes go on.
     match program() {
         Ok(()) => ExitCode::SUCCESS,
         Err(error) => {

@@ -3,11 +3,12 @@ ghost use Rattle.std.specs.Prelude.{◌≡◌, true, ◌+◌, ◌≤◌, false, 
 ghost use Rattle.std.specs.List.{list_all};
 ghost use Rattle.lines.specs.Record.{record_of};
 ghost use Rattle.lines.specs.Parsed.{parsed};
-ghost use Rattle.sessions.specs.Layout.{size_of};
+ghost use Rattle.sessions.specs.Layout.{size_of, width};
 ghost use Rattle.session_texts.specs.Records.{record_size, file_size, is_event};
 ghost use Rattle.session_texts.specs.Told.{late, heard};
 
 use crate::fault::{MakeFault, TextFault};
+use faults::Section;
 use lines::{Line, parse_line};
 use sessions::MOST_BYTES;
 use std::alloc::{AllocError, Global};
@@ -21,13 +22,13 @@ pub(crate) struct Draft {
     ghost small: { size_of deposits.len events.len ≤ 65536 },
 }
 
-// How many bytes the record of a line takes in a file.
-fn width(line: &Line) -> usize
-    ensures { result ≡ record_size (record_of line.now) }
+// The section that keeps the record of a line.
+fn section_of(line: &Line) -> Section
+    ensures { width result ≡ record_size (record_of line.now) }
 {
     match line {
-        Line::Deposit(_) => 4,
-        _ => 16,
+        Line::Deposit(_) => Section::Deposits,
+        _ => Section::Events,
     }
 }
 
@@ -49,7 +50,8 @@ impl Draft {
         ensures value { result ≡ file_size (records_of self.now) }
         ensures small { result ≤ 65536 }
     {
-        16 + 4 * self.deposits.len() + 16 * self.events.len()
+        16 + Section::Deposits.width() * self.deposits.len()
+            + Section::Events.width() * self.events.len()
     }
 
     // Whether a record comes too late: a deposit behind an event.
@@ -72,7 +74,7 @@ impl Draft {
         if self.is_late(&line) {
             return Err(TextFault::LateDeposit);
         }
-        if self.size() + width(&line) > MOST_BYTES {
+        if self.size() + section_of(&line).width() > MOST_BYTES {
             return Err(TextFault::Oversize);
         }
         Ok(Some(line))

@@ -3,7 +3,7 @@ use Rattle.std.specs.Prelude.{ℕ, ◌+◌, ◌-◌, ◌*◌, List, ◌++◌, co
 use Rattle.records.specs.Bytes.{be, bytes_of}
 use Rattle.faults.specs.declared.section.Section.{Section}
 use Rattle.faults.specs.declared.section.Section.TheVariants.{Deposits, Events}
-use Rattle.faults.specs.Sections.{offset_at}
+use Rattle.faults.specs.Sections.{offset_at, width as record_width}
 
 -- the letters that begin a file
 abbrev pub letters : List ℕ
@@ -16,8 +16,7 @@ count_at Events = 6
 
 -- how many bytes a record has
 abbrev pub width : Section → ℕ
-width Deposits = 4
-width Events = 16
+width s = record_width s
 
 -- how many records a section of the file bs has, where it starts, and where it ends
 abbrev pub count : Section → List ℕ → ℕ

@@ -1,6 +1,6 @@
 //! The header of a session file, and where it says that a record stands.
 ghost use Rattle.std.specs.Prelude.{◌≡◌};
-ghost use Rattle.sessions.specs.Layout.{width, count, start, finish};
+ghost use Rattle.sessions.specs.Layout.{count, start, finish};
 ghost use Rattle.sessions.specs.Reading.{opened, placed};
 
 use faults::{FileFault, Section};
@@ -8,16 +8,6 @@ use std::ops::Range;
 
 /// The letters that a session file begins with.
 pub const LETTERS: [u8; 4] = *b"SOSA";
-
-// How many bytes a record of the section has.
-fn record_width(section: Section) -> usize
-    ensures { result ≡ width section }
-{
-    match section {
-        Section::Deposits => 4,
-        Section::Events => 16,
-    }
-}
 
 /// The 16 bytes that a file begins with. Each `unwrap` below is proved to find its bytes, and tests nothing.
 #[derive(Clone, Copy)]
@@ -44,7 +34,7 @@ impl Header {
     {
         let at = section.offset_at();
         let start = u32::from_be_bytes(*self.bytes[at..].first_chunk().unwrap()) as usize;
-        start..start + record_width(section) * self.count(section)
+        start..start + section.width() * self.count(section)
     }
 
     /// Where the record of this number begins.
@@ -54,7 +44,7 @@ impl Header {
         if number == 0 || number > self.count(section) {
             return Err(FileFault::NoRecord(number));
         }
-        Ok(self.range(section).start + record_width(section) * (number - 1))
+        Ok(self.range(section).start + section.width() * (number - 1))
     }
 }
 

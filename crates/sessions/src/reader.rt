@@ -75,7 +75,9 @@ impl<'a> Reader<'a> {
         ensures { result ≡ deposit_at (lent self.now) number }
     {
         let at = self.place(Section::Deposits, number)?;
-        let dollars = self.bytes[at..at + 4].as_array().unwrap();
+        let dollars = self.bytes[at..at + Section::Deposits.width()]
+            .as_array()
+            .unwrap();
         Ok(u32::from_be_bytes(*dollars))
     }
 
@@ -84,7 +86,9 @@ impl<'a> Reader<'a> {
         ensures { seen result ≡ event_at (lent self.now) number }
     {
         let at = self.place(Section::Events, number)?;
-        let record = self.bytes[at..at + 16].as_array().unwrap();
+        let record = self.bytes[at..at + Section::Events.width()]
+            .as_array()
+            .unwrap();
         event_in(record, number)
     }
 }
