@@ -1,19 +1,25 @@
 -- What a draft holds, and what hearing a line answers.
-use Rattle.std.specs.Prelude.{◌≡◌, ℕ, ◌+◌, ◌≤◌, false, List, ◌++◌, map, Some, None, Ok, Err, vec_items, Option, Result, Vec}
+use Rattle.std.specs.Prelude.{◌≡◌, ℕ, ◌+◌, ◌≤◌, true, false, List, ◌++◌, map, length, Some, None, Ok, Err, vec_items, Option, Result, Vec}
+use Rattle.std.specs.List.{list_all}
 use Rattle.lines.specs.declared.line.Line.{Line}
 use Rattle.lines.specs.declared.fault.LineFault.{LineFault}
 use Rattle.lines.specs.Record.{Record, deposit, record_of}
 use Rattle.std.specs.declared.alloc.Global.{Global}
-use Rattle.session_texts.specs.Records.{record_size, file_size, file_of}
+use Rattle.sessions.specs.Layout.{size_of}
+use Rattle.session_texts.specs.Records.{record_size, file_size, is_event, file_of}
 use Rattle.session_texts.specs.Told.{late, heard, told}
-use Rattle.session_texts.specs.declared.draft.Draft.{Draft}
 use Rattle.session_texts.specs.declared.fault.TextFault.{TextFault}
 use Rattle.session_texts.specs.declared.fault.MakeFault.{MakeFault}
 use Rattle.session_texts.specs.declared.fault.MakeFault.TheVariants.{Line as AtLine, Memory}
 
--- the records of a draft
-abbrev pub records_of : Draft → List Record
-records_of d = map deposit (vec_items d.deposits) ++ map record_of (vec_items d.events)
+-- the records of a draft that has these deposits, and these lines behind them
+abbrev pub records_of : List ℕ → List Line → List Record
+records_of deposits events = map deposit deposits ++ map record_of events
+
+-- the lines say events alone, and the file of it all has 65,536 bytes at most
+pub record Sound (deposits : List ℕ) (events : List Line) : Type 0 where
+  pub only_events : list_all (λ line. is_event (record_of line)) events ≡ true
+  pub small : size_of (length deposits) (length events) ≤ 65536
 
 -- what a line says to a draft of these records: a record that has a place there, nothing, or a refusal
 abbrev pub Taken : Result (Option Line) TextFault → List Record → Result (Option Record) LineFault → Type 0
@@ -28,8 +34,8 @@ Heard (Err (AtLine k f)) n after new = (k ≡ n) × (after ≡ Err f)
 Heard (Err Memory) n after new = Unit {0}
 
 -- the answer on a whole text
-abbrev pub ToldBy : Result Draft MakeFault → List ℕ → Type 0
-ToldBy (Ok d) text = told text ≡ Ok (records_of d)
+abbrev pub ToldBy : Result (List Record) MakeFault → List ℕ → Type 0
+ToldBy (Ok rs) text = told text ≡ Ok rs
 ToldBy (Err (AtLine n f)) text = told text ≡ Err (n, f)
 ToldBy (Err Memory) text = Unit {0}
 

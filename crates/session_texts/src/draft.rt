@@ -1,10 +1,9 @@
 //! The records that a text has told so far.
-ghost use Rattle.std.specs.Prelude.{◌≡◌, true, ◌+◌, ◌≤◌, false, [], ◌∷◌, ◌++◌, OnOk};
-ghost use Rattle.std.specs.List.{list_all};
+ghost use Rattle.std.specs.Prelude.{◌≡◌, ◌+◌, ◌≤◌, false, [], ◌∷◌, ◌++◌, OnOk};
 ghost use Rattle.lines.specs.Record.{record_of};
 ghost use Rattle.lines.specs.Parsed.{parsed};
-ghost use Rattle.sessions.specs.Layout.{size_of, width};
-ghost use Rattle.session_texts.specs.Records.{record_size, file_size, is_event};
+ghost use Rattle.sessions.specs.Layout.{width};
+ghost use Rattle.session_texts.specs.Records.{record_size, file_size};
 ghost use Rattle.session_texts.specs.Told.{late, heard};
 
 use crate::fault::{MakeFault, TextFault};
@@ -12,14 +11,25 @@ use faults::Section;
 use lines::{Line, parse_line};
 use sessions::MOST_BYTES;
 use std::alloc::{AllocError, Global};
+use std::marker::Model;
 
-/// The records told so far, deposits before events. Their file has 65,536 bytes at most.
+/// The records told so far, deposits before events; contracts see their list. Their file has 65,536 bytes at most.
 #[derive(Drop)]
 pub(crate) struct Draft {
     pub(crate) deposits: Vec<u32>,
     pub(crate) events: Vec<Line>,
-    ghost only_events: { list_all (λ line. is_event (record_of line)) events.items ≡ true },
-    ghost small: { size_of deposits.len events.len ≤ 65536 },
+}
+
+impl Model for Draft {
+    ghost use Rattle.std.specs.Prelude.{List};
+    ghost use Rattle.lines.specs.Record.{Record};
+    ghost use Rattle.session_texts.specs.Drafts.{records_of, Sound};
+
+    ghost Value = { List Record };
+
+    ghost view = { λ d. records_of d.deposits.items d.events.items };
+
+    ghost invariant = { λ d. Sound d.deposits.items d.events.items };
 }
 
 // The section that keeps the record of a line.
@@ -33,11 +43,11 @@ fn section_of(line: &Line) -> Section
 }
 
 impl Draft {
-    ghost use Rattle.session_texts.specs.Drafts.{records_of, Taken, Heard};
+    ghost use Rattle.session_texts.specs.Drafts.{Taken, Heard};
 
     /// Nothing told yet: a file of a header alone.
     pub(crate) fn new(heap: Global) -> Draft
-        ensures { records_of result ≡ [] }
+        ensures { result ≡ [] }
     {
         Draft {
             deposits: Vec::new(heap),
@@ -47,7 +57,7 @@ impl Draft {
 
     /// How many bytes the file of these records has.
     pub(crate) fn size(&self) -> usize
-        ensures value { result ≡ file_size (records_of self.now) }
+        ensures value { result ≡ file_size self.now }
         ensures small { result ≤ 65536 }
     {
         16 + Section::Deposits.width() * self.deposits.len()
@@ -56,7 +66,7 @@ impl Draft {
 
     // Whether a record comes too late: a deposit behind an event.
     fn is_late(&self, line: &Line) -> bool
-        ensures { result ≡ late (records_of self.now) (record_of line.now) }
+        ensures { result ≡ late self.now (record_of line.now) }
     {
         match line {
             Line::Deposit(_) => !self.events.is_empty(),
@@ -66,7 +76,7 @@ impl Draft {
 
     // The record that a line says, if it says one, unless there is no place for it here.
     fn record(&self, text: &[u8]) -> Result<Option<Line>, TextFault>
-        ensures { Taken result (records_of self.now) (parsed text.now) }
+        ensures { Taken result self.now (parsed text.now) }
     {
         let Some(line) = parse_line(text)? else {
             return Ok(None);
@@ -82,9 +92,9 @@ impl Draft {
 
     // One record more, which has a place here.
     fn push(&mut self, line: Line) -> Result<(), AllocError>
-        requires in_time { late (records_of self.old) (record_of line) ≡ false }
-        requires room { file_size (records_of self.old) + record_size (record_of line) ≤ 65536 }
-        ensures { OnOk result (records_of self.new ≡ records_of self.old ++ record_of line ∷ []) }
+        requires in_time { late self.old (record_of line) ≡ false }
+        requires room { file_size self.old + record_size (record_of line) ≤ 65536 }
+        ensures { OnOk result (self.new ≡ self.old ++ record_of line ∷ []) }
     {
         match line {
             Line::Deposit(dollars) => self.deposits.push(dollars)?,
@@ -95,7 +105,7 @@ impl Draft {
 
     /// Hears the line of this number.
     pub(crate) fn hear(&mut self, number: usize, text: &[u8]) -> Result<(), MakeFault>
-        ensures { Heard result number (heard (records_of self.old) (parsed text.now)) (records_of self.new) }
+        ensures { Heard result number (heard self.old (parsed text.now)) self.new }
     {
         let record = self
             .record(text)

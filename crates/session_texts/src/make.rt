@@ -4,7 +4,7 @@ ghost use Rattle.std.specs.List.{AllByRecursion};
 ghost use Rattle.records.specs.Event.{value_of, row_fits};
 ghost use Rattle.lines.specs.Record.{record_of};
 ghost use Rattle.session_texts.specs.Records.{events_in, file_of};
-ghost use Rattle.session_texts.specs.Drafts.{records_of, MadeFrom};
+ghost use Rattle.session_texts.specs.Drafts.{MadeFrom};
 ghost use Rattle.session_texts.specs.Again.{MadeAgain};
 
 use crate::draft::Draft;
@@ -33,7 +33,7 @@ fn events_in(heap: Global, lines: &[Line]) -> Result<Vec<Event<'_>>, AllocError>
 impl Draft {
     // The file of what was told.
     fn file(&self, heap: Global) -> Result<Vec<u8>, AllocError>
-        ensures { IfOk result (λ v. v.items ≡ file_of (records_of self.now)) }
+        ensures { IfOk result (λ v. v.items ≡ file_of self.now) }
     {
         let events = events_in(heap, &self.events)?;
         let mut file = vec![in heap; 0; self.size()]?;

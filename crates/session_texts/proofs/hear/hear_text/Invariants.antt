@@ -1,6 +1,5 @@
 use Rattle.std.proofs.Common.{◌≡◌, ◌+◌}
 use Rattle.session_texts.specs.Told.{told, heard_all}
-use Rattle.session_texts.specs.Drafts.{records_of}
 use Rattle.session_texts.proofs.Lines.{lines_left}
 use Rattle.session_texts.proofs.hear.hear_text.Given as goal
 
@@ -10,5 +9,5 @@ invariant-loop-at l =
     record {
       goes_on : (goal.iterator-loop-at).can_next l.at-iterator;
       ends : (goal.iterator-loop-at).is_finite l.at-iterator;
-      told : heard_all (l.at-iterator.count + 1) (lines_left l.at-iterator.iter) (records_of l.draft) ≡ told l.text;
+      told : heard_all (l.at-iterator.count + 1) (lines_left l.at-iterator.iter) l.draft ≡ told l.text;
     }
