@@ -8,7 +8,7 @@ use steps::{BookFault, Step, StepRecord};
 
 /// How many steps more the book takes.
 pub(crate) fn left<B: StepBook>(book: &B) -> u16
-    ensures { result ≡ B.StepBook.size book.now - length (B.StepBook.steps book.now) }
+    ensures { result ≡ (B.StepBook.frame book.now).size - length (B.StepBook.steps book.now) }
 {
     let (count, size) = book.count();
     size - count
@@ -16,7 +16,7 @@ pub(crate) fn left<B: StepBook>(book: &B) -> u16
 
 /// Enters a step and reads it back.
 pub(crate) fn enter<B: StepBook>(book: &mut B, seat: u8, market: u8) -> Result<Step, BookFault>
-    ensures after { B.StepBook.steps book.new ≡ put_after (B.StepBook.size book.old) (B.StepBook.steps book.old) (entered (B.StepBook.steps book.old) (record { seat = seat; market = market; shares = 50; discount = 100; stamp = 7 })) }
+    ensures after { B.StepBook.steps book.new ≡ put_after (B.StepBook.frame book.old).size (B.StepBook.steps book.old) (entered (B.StepBook.steps book.old) (record { seat = seat; market = market; shares = 50; discount = 100; stamp = 7 })) }
     ensures reply { IfOk result (λ step. step.stored ≡ entered (B.StepBook.steps book.old) (record { seat = seat; market = market; shares = 50; discount = 100; stamp = 7 })) }
 {
     let number = book.put(NewStep {

@@ -2,6 +2,7 @@
 use Rattle.std.specs.Prelude.{ℕ, min, List, length, take, drop}
 use Rattle.steps.specs.declared.record.StepRecord.{StepRecord}
 use Rattle.books.specs.declared.flat.FlatBook.{FlatBook}
+use Rattle.books.specs.Frames.{Frame}
 use Rattle.books.specs.Lawful.{Lawful}
 use Rattle.books.specs.Keeps.{taken_lawful}
 
@@ -20,6 +21,10 @@ flat_lent b = b.records.ghost_name
 -- the records past its size
 abbrev pub flat_beyond : FlatBook → List StepRecord
 flat_beyond b = drop (flat_size b) b.records.now
+
+-- what no call alters
+abbrev pub flat_frame : FlatBook → Frame
+flat_frame b = record { size = flat_size b; lent = flat_lent b; beyond = flat_beyond b }
 
 -- it keeps a book's laws
 abbrev pub flat_lawful : (b : FlatBook) → Lawful (flat_size b) (flat_steps b)

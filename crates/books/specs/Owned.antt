@@ -2,6 +2,7 @@
 use Rattle.std.specs.Prelude.{ℕ, List, [], vec_items}
 use Rattle.std.proofs.Common.{arith}
 use Rattle.steps.specs.declared.record.StepRecord.{StepRecord}
+use Rattle.books.specs.Frames.{Frame}
 use Rattle.books.specs.Lawful.{Lawful}
 use Rattle.books.specs.declared.owned.VecBook.{VecBook}
 
@@ -14,11 +15,8 @@ abbrev pub owned_steps : VecBook → List StepRecord
 owned_steps b = vec_items b.rows
 
 -- nothing was lent to it
-abbrev pub owned_lent : VecBook → ℕ
-owned_lent b = 0
-
-abbrev pub owned_beyond : VecBook → List StepRecord
-owned_beyond b = []
+abbrev pub owned_frame : VecBook → Frame
+owned_frame b = record { size = owned_size b; lent = 0; beyond = [] }
 
 -- it keeps a book's laws
 abbrev pub owned_lawful : (b : VecBook) → Lawful (owned_size b) (owned_steps b)

@@ -1,6 +1,6 @@
 //! The memory of a flat book.
 ghost use Rattle.std.specs.Prelude.{◌≡◌, []};
-ghost use Rattle.books.specs.Flat.{flat_size, flat_steps, flat_lent, flat_beyond, flat_lawful};
+ghost use Rattle.books.specs.Flat.{flat_frame, flat_steps, flat_lent, flat_lawful};
 
 use crate::book::MOST_STEPS;
 use crate::flat::FlatBook;
@@ -19,13 +19,9 @@ impl<'a> FlatBook<'a> {
 }
 
 impl<'a> StepMemory for FlatBook<'a> {
-    ghost size = { flat_size };
+    ghost frame = { flat_frame };
 
     ghost steps = { flat_steps };
-
-    ghost lent = { flat_lent };
-
-    ghost beyond = { flat_beyond };
 
     ghost lawful = { flat_lawful };
 

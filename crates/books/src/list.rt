@@ -51,13 +51,9 @@ fn record_of<M: StepMemory>(memory: &M, number: u16) -> Result<StepRecord, BookF
 }
 
 impl<M: StepMemory> StepBook for M {
-    ghost size = { M.StepMemory.size };
+    ghost frame = { M.StepMemory.frame };
 
     ghost steps = { M.StepMemory.steps };
-
-    ghost lent = { M.StepMemory.lent };
-
-    ghost beyond = { M.StepMemory.beyond };
 
     ghost lawful = { M.StepMemory.lawful };
 

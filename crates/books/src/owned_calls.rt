@@ -1,6 +1,6 @@
 //! The memory of a book that owns its records.
 ghost use Rattle.std.specs.Prelude.{◌≡◌, min, [], IfOk};
-ghost use Rattle.books.specs.Owned.{owned_size, owned_steps, owned_lent, owned_beyond, owned_lawful};
+ghost use Rattle.books.specs.Owned.{owned_frame, owned_size, owned_steps, owned_lawful};
 
 use crate::book::MOST_STEPS;
 use crate::memory::StepMemory;
@@ -20,13 +20,9 @@ impl VecBook {
 }
 
 impl StepMemory for VecBook {
-    ghost size = { owned_size };
+    ghost frame = { owned_frame };
 
     ghost steps = { owned_steps };
-
-    ghost lent = { owned_lent };
-
-    ghost beyond = { owned_beyond };
 
     ghost lawful = { owned_lawful };
 

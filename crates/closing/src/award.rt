@@ -11,9 +11,7 @@ use steps::Shares;
 
 /// Hands the lots out down the rank of each of the seven markets, and answers their clearing discounts.
 pub fn hand_out<B: StepBook>(book: &mut B, lots: u8) -> [Option<u16>; 7]
-    ensures size { B.StepBook.size book.new ≡ B.StepBook.size book.old }
-    ensures lent { B.StepBook.lent book.new ≡ B.StepBook.lent book.old }
-    ensures beyond { B.StepBook.beyond book.new ≡ B.StepBook.beyond book.old }
+    ensures frame { B.StepBook.frame book.new ≡ B.StepBook.frame book.old }
     ensures steps { B.StepBook.steps book.new ≡ settled lots (B.StepBook.steps book.old) }
     ensures clearing { result ≡ listed (λ m. least m (settled lots (B.StepBook.steps book.old))) 1 7 }
 {
@@ -34,9 +32,7 @@ fn market_at(place: usize) -> u8
 
 // Walks one market's rank from the top, and answers its clearing discount.
 fn hand_out_market<B: StepBook>(book: &mut B, market: u8, lots: u8) -> Option<u16>
-    ensures size { B.StepBook.size book.new ≡ B.StepBook.size book.old }
-    ensures lent { B.StepBook.lent book.new ≡ B.StepBook.lent book.old }
-    ensures beyond { B.StepBook.beyond book.new ≡ B.StepBook.beyond book.old }
+    ensures frame { B.StepBook.frame book.new ≡ B.StepBook.frame book.old }
     ensures steps { B.StepBook.steps book.new ≡ handed (λ b. nat_eq b.market market) lots (B.StepBook.steps book.old) }
     ensures clearing { result ≡ least market (settled lots (B.StepBook.steps book.old)) }
 {
@@ -65,9 +61,7 @@ struct Walk {
 // Gives the step the lesser of its standing shares and the lots left, and sets the rest losing.
 fn award_step<B: StepBook>(book: &mut B, number: u16, walk: Walk) -> Walk
     requires { held (B.StepBook.steps book.old) number ≡ true }
-    ensures size { B.StepBook.size book.new ≡ B.StepBook.size book.old }
-    ensures lent { B.StepBook.lent book.new ≡ B.StepBook.lent book.old }
-    ensures beyond { B.StepBook.beyond book.new ≡ B.StepBook.beyond book.old }
+    ensures frame { B.StepBook.frame book.new ≡ B.StepBook.frame book.old }
     ensures steps { B.StepBook.steps book.new ≡ slice_set (B.StepBook.steps book.old) (number - 1) (awarded walk.left (at (B.StepBook.steps book.old) number)) }
     ensures left { result.left ≡ walk.left - gets walk.left (at (B.StepBook.steps book.old) number) }
     ensures clearing { result.clearing ≡ cleared walk.left (at (B.StepBook.steps book.old) number) walk.clearing }

@@ -22,9 +22,7 @@ pub(crate) fn step_of<B: StepBook>(book: &B, number: u16) -> StepRecord
 pub(crate) fn reshare<B: StepBook>(book: &mut B, number: u16, shares: Shares)
     requires number { held (B.StepBook.steps book.old) number ≡ true }
     requires shares { shares_ok shares ≡ true }
-    ensures size { B.StepBook.size book.new ≡ B.StepBook.size book.old }
-    ensures lent { B.StepBook.lent book.new ≡ B.StepBook.lent book.old }
-    ensures beyond { B.StepBook.beyond book.new ≡ B.StepBook.beyond book.old }
+    ensures frame { B.StepBook.frame book.new ≡ B.StepBook.frame book.old }
     ensures steps { B.StepBook.steps book.new ≡ slice_set (B.StepBook.steps book.old) (number - 1) (reshared (at (B.StepBook.steps book.old) number) shares) }
 {
     book.set(number, shares).unwrap()

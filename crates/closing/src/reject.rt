@@ -9,9 +9,7 @@ use steps::Shares;
 
 /// Rejects every losing share.
 pub fn reject_losing<B: StepBook>(book: &mut B)
-    ensures size { B.StepBook.size book.new ≡ B.StepBook.size book.old }
-    ensures lent { B.StepBook.lent book.new ≡ B.StepBook.lent book.old }
-    ensures beyond { B.StepBook.beyond book.new ≡ B.StepBook.beyond book.old }
+    ensures frame { B.StepBook.frame book.new ≡ B.StepBook.frame book.old }
     ensures steps { B.StepBook.steps book.new ≡ map rejects (B.StepBook.steps book.old) }
 {
     let (count, _) = book.count();
@@ -23,9 +21,7 @@ pub fn reject_losing<B: StepBook>(book: &mut B)
 // Rejects the losing shares of one step.
 fn reject_step<B: StepBook>(book: &mut B, number: u16)
     requires { held (B.StepBook.steps book.old) number ≡ true }
-    ensures size { B.StepBook.size book.new ≡ B.StepBook.size book.old }
-    ensures lent { B.StepBook.lent book.new ≡ B.StepBook.lent book.old }
-    ensures beyond { B.StepBook.beyond book.new ≡ B.StepBook.beyond book.old }
+    ensures frame { B.StepBook.frame book.new ≡ B.StepBook.frame book.old }
     ensures steps { B.StepBook.steps book.new ≡ slice_set (B.StepBook.steps book.old) (number - 1) (rejects (at (B.StepBook.steps book.old) number)) }
 {
     let shares = step_of(book, number).shares;

@@ -98,7 +98,7 @@ fn take_out<B: StepBook>(book: &mut B, step: StepRecord, number: u16, shares: u8
     requires step { step ≡ at (B.StepBook.steps book.old) number }
     requires held { held (B.StepBook.steps book.old) number ≡ true }
     requires enough { shares ≤ step.shares.standing }
-    ensures size { B.StepBook.size book.new ≡ B.StepBook.size book.old }
+    ensures frame { B.StepBook.frame book.new ≡ B.StepBook.frame book.old }
     ensures steps { B.StepBook.steps book.new ≡ slice_set (B.StepBook.steps book.old) (number - 1) (less shares step) }
 {
     let standing = step.shares.standing - shares;

@@ -18,7 +18,7 @@ use Rattle.sale_parts.specs.Stages.{is_open, has_ended}
 abbrev pub state_of : {S B : Type 0} → SheetGhosts S → BookGhosts B → SaleParts S B → State
 state_of sheet book s = record {
   figures = sheet.figures s.sheet;
-  size = book.size s.book;
+  size = (book.frame s.book).size;
   steps = book.steps s.book;
   lots = s.ledger.lots;
   round = s.ledger.round;

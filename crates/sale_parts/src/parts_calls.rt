@@ -21,7 +21,7 @@ pub fn outside(n: usize, top: usize) -> bool
 impl<S: PhaseSheet + Drop, B: StepBook + Drop> SaleParts<S, B> {
     /// An unstarted sale: ended, with no seat, no clearing discount and every number 0.
     pub fn new(sheet: S, book: B) -> SaleParts<S, B>
-        ensures { state_of S.PhaseSheet B.StepBook result ≡ fresh (S.PhaseSheet.figures sheet) (B.StepBook.size book) (B.StepBook.steps book) }
+        ensures { state_of S.PhaseSheet B.StepBook result ≡ fresh (S.PhaseSheet.figures sheet) (B.StepBook.frame book).size (B.StepBook.steps book) }
     {
         let ledger = Ledger {
             lots: 0,

@@ -19,7 +19,7 @@ pub type Reply = Result<Answer, SaleFault>;
 impl<S: PhaseSheet + Drop, B: StepBook + Drop> Sale<S, B> {
     /// An unstarted sale: ended, with no seat, no clearing discount and every number 0.
     pub fn new(sheet: S, book: B) -> Sale<S, B>
-        ensures { state_of S.PhaseSheet B.StepBook result ≡ fresh (S.PhaseSheet.figures sheet) (B.StepBook.size book) (B.StepBook.steps book) }
+        ensures { state_of S.PhaseSheet B.StepBook result ≡ fresh (S.PhaseSheet.figures sheet) (B.StepBook.frame book).size (B.StepBook.steps book) }
     {
         Sale {
             parts: SaleParts::new(sheet, book),

@@ -9,5 +9,5 @@ returns g c =
     let steps = g.B.StepBook.steps a.book.now in
     record {
       after = put.after;
-      reply = read_back (λ _. Unit {0}) (g.B.StepBook.size a.book.now) steps (g.B.StepBook.steps c.put.new.self) (entered steps (record { seat = a.seat; market = a.market; shares = 50; discount = 100; stamp = 7 })) c.in_ok-number.number c.read.result put.reply put.after c.read.ensures;
+      reply = read_back (λ _. Unit {0}) (g.B.StepBook.frame a.book.now).size steps (g.B.StepBook.steps c.put.new.self) (entered steps (record { seat = a.seat; market = a.market; shares = 50; discount = 100; stamp = 7 })) c.in_ok-number.number c.read.result put.reply put.after c.read.ensures;
     }

@@ -4,7 +4,7 @@ use Rattle.closing.proofs.Markets.{upto_none, upto_more, upto_clearing, upto_all
 use Rattle.closing.proofs.award.hand_out.Goals as goal
 
 pub loop-place-init : goal.loop-place-init
-loop-place-init g c = (refl, refl, refl, upto_none _ _ (g.B.StepBook.lawful c.args.book.now).sound, refl, λ i l. absurd (omega arith))
+loop-place-init g c = (refl, upto_none _ _ (g.B.StepBook.lawful c.args.book.now).sound, refl, λ i l. absurd (omega arith))
 
 pub loop-place-preserved : goal.loop-place-preserved
 loop-place-preserved g c =
@@ -12,12 +12,10 @@ loop-place-preserved g c =
     let e = c.hand_out_market.ensures in
     let next = c.market_at.ensures in
     let xs = g.B.StepBook.steps c.args.book.now in (
-      e.size ∙ inv.0,
-      e.lent ∙ inv.1,
-      e.beyond ∙ inv.2,
-      upto_more c.args.lots xs _ _ _ _ next inv.3 e.steps,
-      simp length-set inv.4,
-      filled_more (λ m. least m (settled c.args.lots xs)) None _ _ _ _ next (omega (arith, inv.4)) inv.5 (e.clearing ∙ upto_clearing c.args.lots xs _ _ _ inv.3),
+      e.frame ∙ inv.0,
+      upto_more c.args.lots xs _ _ _ _ next inv.1 e.steps,
+      simp length-set inv.2,
+      filled_more (λ m. least m (settled c.args.lots xs)) None _ _ _ _ next (omega (arith, inv.2)) inv.3 (e.clearing ∙ upto_clearing c.args.lots xs _ _ _ inv.1),
     )
 
 pub returns : goal.returns
@@ -25,9 +23,7 @@ returns g c =
     let inv = c.loop-place.invariant in
     let xs = g.B.StepBook.steps c.args.book.now in
     record {
-      size = inv.0;
-      lent = inv.1;
-      beyond = inv.2;
-      steps = upto_all c.args.lots xs (g.B.StepBook.lawful c.args.book.now).sound c.loop-place.place (g.B.StepBook.steps c.loop-place.book) (omega arith) inv.3;
-      clearing = filled_all (λ m. least m (settled c.args.lots xs)) None c.loop-place.place 7 c.loop-place.least-items inv.4 (omega arith) inv.5;
+      frame = inv.0;
+      steps = upto_all c.args.lots xs (g.B.StepBook.lawful c.args.book.now).sound c.loop-place.place (g.B.StepBook.steps c.loop-place.book) (omega arith) inv.1;
+      clearing = filled_all (λ m. least m (settled c.args.lots xs)) None c.loop-place.place 7 c.loop-place.least-items inv.2 (omega arith) inv.3;
     }

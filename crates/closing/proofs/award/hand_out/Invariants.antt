@@ -7,9 +7,7 @@ abbrev pub invariant-loop-place : goal.invariant-loop-place
 invariant-loop-place g l =
     let b = g.B.StepBook in
     let xs = b.steps l.initial.book in
-    (b.size l.book ≡ b.size l.initial.book)
-    × (b.lent l.book ≡ b.lent l.initial.book)
-    × (b.beyond l.book ≡ b.beyond l.initial.book)
+    (b.frame l.book ≡ b.frame l.initial.book)
     × (b.steps l.book ≡ upto l.place l.lots xs)
     × (length l.least-items ≡ 7)
     × Filled (λ m. least m (settled l.lots xs)) None l.place l.least-items

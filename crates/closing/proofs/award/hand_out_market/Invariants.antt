@@ -5,9 +5,7 @@ use Rattle.closing.proofs.award.hand_out_market.Given as goal
 abbrev pub invariant-loop-number : goal.invariant-loop-number
 invariant-loop-number g l =
     let b = g.B.StepBook in
-    (b.size l.book ≡ b.size l.initial.book)
-    × (b.lent l.book ≡ b.lent l.initial.book)
-    × (b.beyond l.book ≡ b.beyond l.initial.book)
+    (b.frame l.book ≡ b.frame l.initial.book)
     × Walked l.market l.lots (b.steps l.initial.book) (b.steps l.book) l.at l.walk.left l.walk.clearing
 
 abbrev pub decreases-loop-number : goal.decreases-loop-number

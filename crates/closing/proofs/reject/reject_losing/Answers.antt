@@ -3,12 +3,12 @@ use Rattle.closing.proofs.Rejecting.{rejected_to, rejected_none, rejected_steps,
 use Rattle.closing.proofs.reject.reject_losing.Goals as goal
 
 pub loop-number-init : goal.loop-number-init
-loop-number-init g c = (refl, refl, refl, rejected_none _ (g.B.StepBook.lawful c.args.book.now).sound)
+loop-number-init g c = (refl, rejected_none _ (g.B.StepBook.lawful c.args.book.now).sound)
 
 pub reject_step-requires : goal.reject_step-requires
 reject_step-requires g c =
     let count = ap (λ (r : ℕ × ℕ). r.0) c.count-count.ensures in
-    next_held _ (g.B.StepBook.lawful c.args.book.now).sound _ c.loop-number.number c.loop-number.auto.number c.loop-number.invariant.3 (omega (arith, count))
+    next_held _ (g.B.StepBook.lawful c.args.book.now).sound _ c.loop-number.number c.loop-number.auto.number c.loop-number.invariant.1 (omega (arith, count))
 
 pub loop-number-preserved : goal.loop-number-preserved
 loop-number-preserved g c =
@@ -18,14 +18,14 @@ loop-number-preserved g c =
     let e = c.reject_step.ensures in
     let inv = c.loop-number.invariant in
     let next : n ≡ n + 1 - 1 = omega arith in
-    (e.size ∙ inv.0, e.lent ∙ inv.1, e.beyond ∙ inv.2, next_rejected _ sound _ n c.loop-number.auto.number inv.3 (omega (arith, count)) _ e.steps ∙ ap (λ k. rejected_to k (g.B.StepBook.steps c.args.book.now)) next)
+    (e.frame ∙ inv.0, next_rejected _ sound _ n c.loop-number.auto.number inv.1 (omega (arith, count)) _ e.steps ∙ ap (λ k. rejected_to k (g.B.StepBook.steps c.args.book.now)) next)
 
 pub returns : goal.returns
 returns g c =
     let inv = c.loop-number.invariant in
     let sound = (g.B.StepBook.lawful c.args.book.now).sound in
     let count = ap (λ (r : ℕ × ℕ). r.0) c.count-count.ensures in
-    record { size = inv.0; lent = inv.1; beyond = inv.2; steps = rejected_steps _ sound _ _ inv.3 (omega (arith, count)) }
+    record { frame = inv.0; steps = rejected_steps _ sound _ _ inv.1 (omega (arith, count)) }
 
 pub returns-2 : goal.returns-2
 returns-2 g c =
@@ -37,8 +37,6 @@ returns-2 g c =
     let inv = c.loop-number.invariant in
     let past : length xs ≤ n = search (arith, count) in
     record {
-      size = e.size ∙ inv.0;
-      lent = e.lent ∙ inv.1;
-      beyond = e.beyond ∙ inv.2;
-      steps = rejected_steps _ sound _ n (next_rejected _ sound _ n c.loop-number.auto.number inv.3 (omega (arith, count)) _ e.steps) past;
+      frame = e.frame ∙ inv.0;
+      steps = rejected_steps _ sound _ n (next_rejected _ sound _ n c.loop-number.auto.number inv.1 (omega (arith, count)) _ e.steps) past;
     }

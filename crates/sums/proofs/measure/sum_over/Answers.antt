@@ -9,7 +9,7 @@ pub loop-number-preserved : goal.loop-number-preserved
 loop-number-preserved g c =
     let xs = g.B.StepBook.steps c.args.book.now in
     let l = c.loop-number in
-    let most : l.number ≤ length xs = omega (arith, first_part (length xs) (g.B.StepBook.size c.args.book.now) c.count-count.ensures) in
+    let most : l.number ≤ length xs = omega (arith, first_part (length xs) (g.B.StepBook.frame c.args.book.now).size c.count-count.ensures) in
     let next : l.number + 1 - 1 ≡ l.number = omega arith in
     elim c.match-read.branch [
       | in-Ok w ↦ simp (w.sum-is, next) (
@@ -25,7 +25,7 @@ pub returns-after-read-clause-sum : goal.returns-after-read-clause-sum
 returns-after-read-clause-sum g c =
     let xs = g.B.StepBook.steps c.args.book.now in
     let l = c.loop-number in
-    let count = first_part (length xs) (g.B.StepBook.size c.args.book.now) c.count-count.ensures in
+    let count = first_part (length xs) (g.B.StepBook.frame c.args.book.now).size c.count-count.ensures in
     let most : l.number ≤ length xs = omega (arith, count) in
     let past : length xs ≤ l.number = search (arith, count) in
     elim c.match-read.branch [
@@ -39,7 +39,7 @@ returns-after-read-clause-most g c =
     let xs = g.B.StepBook.steps b in
     let law = g.B.StepBook.lawful b in
     let l = c.loop-number in
-    let most : l.number ≤ length xs = omega (arith, first_part (length xs) (g.B.StepBook.size b) c.count-count.ensures) in
+    let most : l.number ≤ length xs = omega (arith, first_part (length xs) (g.B.StepBook.frame b).size c.count-count.ensures) in
     elim c.match-read.branch [
       | in-Ok w ↦ simp w.sum-is (most_all l.number _ _ (omega (arith, law.small, law.room)) (most_more l.number _ _ _ l.invariant.0 l.invariant.2 w.amount-sum.ensures.most))
       | in_default w ↦ absurd (none_missing xs l.number l.invariant.0 most w.in_default.ensures.0)
