@@ -2,4 +2,3 @@ pub mod Cuts
 pub mod Figures
 pub mod Pairs
 pub mod Back
-pub mod Arrays

@@ -8,6 +8,7 @@ use books::StepBook;
 use rules::{Answer, SaleFault};
 use sale_parts::{SaleParts, Stage};
 use sheets::PhaseSheet;
+use std::array;
 use sums::first_above;
 
 /// The largest increment, in hundredths of a percent.
@@ -71,12 +72,7 @@ fn padded(row: &[u16]) -> [u16; 7]
     requires { length row.now ≤ 7 }
     ensures { result ≡ padded_row row.now }
 {
-    let mut increments = [0; 7];
-    // By index: `array::from_fn` says it shorter, but takes a proof three times as long.
-    for (place, given) in row.iter().enumerate() {
-        increments[place] = increment_of(*given);
-    }
-    increments
+    array::from_fn(|place| row.get(place).map_or(0, |given| increment_of(*given)))
 }
 
 // An increment of 0 stands for the default.

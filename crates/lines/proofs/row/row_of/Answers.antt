@@ -2,7 +2,7 @@ use Rattle.std.proofs.Common.{◌≡◌, map, rules, ap, ◌∙◌, arith}
 use Rattle.std.specs.List.{flat_map}
 use Rattle.std.proofs.lemmas.List.Folds.{flat_map-map}
 use Rattle.records.specs.Bytes.{bytes_of}
-use Rattle.lines.proofs.Arrays.{mapped_is}
+use Rattle.arrays.proofs.Made.{mapped_is}
 use Rattle.lines.proofs.row.row_of.Goals as goal
 
 pub returns : goal.returns

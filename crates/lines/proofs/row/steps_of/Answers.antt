@@ -1,5 +1,5 @@
 use Rattle.std.proofs.Common.{rules, ◌∙◌, arith}
-use Rattle.lines.proofs.Arrays.{made_is}
+use Rattle.arrays.proofs.Made.{made_is}
 use Rattle.lines.proofs.Pairs.{pair_at, increments_are}
 use Rattle.lines.proofs.row.steps_of.Goals as goal
 
