@@ -41,7 +41,7 @@ pub trait StepBook {
         ensures after { steps self.new ≡ set_after (steps self.old) number shares };
 
     /// The number of the market's first step that ranks behind the one of the given number; 0, which no step has, asks for
-    /// the top.
+    /// the top. It is the rule of every book here, and an option beside it would have two words for the top.
     fn next(&self, market: u8, number: u16) -> Result<Option<u16>, BookFault>
         ensures { NextReply (steps self.now) market number result };
 }

@@ -59,6 +59,7 @@ pub(crate) fn check(bytes: &[u8]) -> Result<(), FileFault>
         return Err(FileFault::Letters);
     }
     let header = Header { bytes: first };
+    // Each section's test stands here, since the last test is of both.
     let deposits = header.range(Section::Deposits);
     if deposits.start < 16 || deposits.end > bytes.len() {
         return Err(FileFault::Section(Section::Deposits));

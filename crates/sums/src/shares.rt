@@ -94,7 +94,8 @@ impl Measure for WonByIn {
     }
 }
 
-// Each sum that a sale asks for has a name of its own, which says it in the rules' words and bounds it.
+// Each sum that a sale asks for has a name of its own, which says it in the rules' words and bounds it: what is made of a
+// sum must not wrap, and a closure for the measure would have no name to say the sum by.
 
 /// The shares won in the book.
 pub fn shares_won<B: StepBook>(book: &B) -> u32
