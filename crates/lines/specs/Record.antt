@@ -1,25 +1,26 @@
 -- What a line says, apart from how the code holds it.
-use Rattle.std.specs.Prelude.{ℕ, ◌^◌, ◌<◌, cond, length, Some, None, Ok, Err, Option, Result, ◌==◌, slice_index}
+use Rattle.std.specs.Prelude.{ℕ, ◌^◌, ◌<◌, List, cond, length, Some, None, Ok, Err, Option, Result, ◌==◌, slice_index}
 use Rattle.std.specs.Option.{option_map}
 use Rattle.faults.specs.declared.record.RecordFault.{RecordFault}
 use Rattle.faults.specs.declared.record.RecordFault.TheVariants.{RowLength}
-use Rattle.records.specs.Event.{EventValue, opening, new_step, raise, close, changeover, value_of_new_step, value_of_raise, Sized}
+use Rattle.records.specs.declared.event.Event.{Event}
+use Rattle.records.specs.Event.{EventValue, opening, new_step, raise, close, changeover, value_with, Sized}
 use Rattle.lines.specs.declared.line.Line.{Line}
-use Rattle.lines.specs.declared.line.Line.TheVariants.{Deposit, Open, NewStep, Raise, Close, Changeover}
+use Rattle.lines.specs.declared.line.Line.TheVariants.{Deposit, Event as OfEvent}
 
 -- what a line says: a deposit of so many dollars, or an event
 pub data Record : Type 0 where
   deposit : (dollars : ℕ) → Record
   event : EventValue → Record
 
+-- the value of an event that has its row itself
+abbrev pub own_value : Event (List ℕ) → EventValue
+own_value e = value_with (λ row. row) e
+
 -- what a line that the code holds says
 abbrev pub record_of : Line → Record
 record_of (Deposit dollars) = deposit dollars
-record_of (Open row) = event (opening row)
-record_of (NewStep step) = event (value_of_new_step step)
-record_of (Raise offer) = event (value_of_raise offer)
-record_of Close = event close
-record_of Changeover = event changeover
+record_of (OfEvent e) = event (own_value e)
 
 -- the same of an answer that is a line
 abbrev pub kept_as : {F : Type 0} → Result Line F → Result Record F

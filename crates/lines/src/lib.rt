@@ -12,6 +12,6 @@ mod text;
 mod words;
 
 pub use fault::LineFault;
-pub use line::Line;
+pub use line::{Line, lent};
 pub use parse::parse_line;
 pub use text::line_text;

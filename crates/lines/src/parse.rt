@@ -10,6 +10,7 @@ use crate::line::Line;
 use crate::row::row_of;
 use crate::words::split_word;
 use offers::{NewStep, Raise};
+use records::Event;
 
 // The most that a field of so many bits holds.
 const MOST_8: u64 = u8::MAX as u64;
@@ -38,13 +39,13 @@ fn enter(text: &[u8]) -> Result<Line, LineFault>
         text,
         [MOST_8, MOST_8, MOST_8, MOST_16, MOST_64],
     )?;
-    Ok(Line::NewStep(NewStep {
+    Ok(Line::Event(Event::NewStep(NewStep {
         seat: seat as u8,
         market: market as u8,
         shares: shares as u8,
         discount: discount as u16,
         stamp,
-    }))
+    })))
 }
 
 // seven increments
@@ -52,7 +53,7 @@ fn open(text: &[u8]) -> Result<Line, LineFault>
     ensures { kept_as result ≡ filled open_of (fields open_limits 1 text.now) }
 {
     let steps = read_fields(text, [MOST_16; 7])?;
-    Ok(Line::Open(row_of(steps)))
+    Ok(Line::Event(Event::Open(row_of(steps))))
 }
 
 // SEAT STEP SHARES DISCOUNT STAMP
@@ -63,13 +64,13 @@ fn raise(text: &[u8]) -> Result<Line, LineFault>
         text,
         [MOST_8, MOST_16, MOST_8, MOST_16, MOST_64],
     )?;
-    Ok(Line::Raise(Raise {
+    Ok(Line::Event(Event::Raise(Raise {
         seat: seat as u8,
         step: step as u16,
         shares: shares as u8,
         discount: discount as u16,
         stamp,
-    }))
+    })))
 }
 
 // A line that is one word alone.
@@ -89,8 +90,8 @@ fn said_by(word: &[u8], text: &[u8]) -> Result<Line, LineFault>
         b"open" => open(text),
         b"enter" => enter(text),
         b"raise" => raise(text),
-        b"close" => bare(Line::Close, text),
-        b"changeover" => bare(Line::Changeover, text),
+        b"close" => bare(Line::Event(Event::Close), text),
+        b"changeover" => bare(Line::Event(Event::Changeover), text),
         _ => Err(LineFault::UnknownWord),
     }
 }

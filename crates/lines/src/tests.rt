@@ -4,6 +4,7 @@ use crate::line::Line;
 use crate::parse::parse_line;
 use crate::text::line_text;
 use offers::{NewStep, Raise};
+use records::Event;
 use std::process::Abort;
 use std::test::Fail;
 
@@ -19,27 +20,27 @@ fn every_kind_of_line_is_shown_and_parsed(rt: HostRuntime) -> Result<(), Fail> {
     both_ways(&rt, Line::Deposit(25_000), "deposit 25000")?;
     both_ways(
         &rt,
-        Line::Open([0, 1, 1, 0, 0, 0, 255, 255, 0, 5, 0, 6, 0, 7]),
+        Line::Event(Event::Open([0, 1, 1, 0, 0, 0, 255, 255, 0, 5, 0, 6, 0, 7])),
         "open 1 256 0 65535 5 6 7",
     )?;
-    let entry = Line::NewStep(NewStep {
+    let entry = Line::Event(Event::NewStep(NewStep {
         seat: 1,
         market: 2,
         shares: 3,
         discount: 4,
         stamp: 5,
-    });
+    }));
     both_ways(&rt, entry, "enter 1 2 3 4 5")?;
-    let raise = Line::Raise(Raise {
+    let raise = Line::Event(Event::Raise(Raise {
         seat: 1,
         step: 2,
         shares: 3,
         discount: 4,
         stamp: 5,
-    });
+    }));
     both_ways(&rt, raise, "raise 1 2 3 4 5")?;
-    both_ways(&rt, Line::Close, "close")?;
-    both_ways(&rt, Line::Changeover, "changeover")
+    both_ways(&rt, Line::Event(Event::Close), "close")?;
+    both_ways(&rt, Line::Event(Event::Changeover), "changeover")
 }
 
 #[test]
@@ -48,7 +49,7 @@ fn blanks_and_leading_zeros_do_not_matter(rt: HostRuntime) {
         parse_line(b"\tdeposit \t 007 \r"),
         Ok(Some(Line::Deposit(7)))
     );
-    assert_eq!(rt; parse_line(b"close\r"), Ok(Some(Line::Close)));
+    assert_eq!(rt; parse_line(b"close\r"), Ok(Some(Line::Event(Event::Close))));
 }
 
 #[test]
@@ -60,13 +61,13 @@ fn a_blank_line_and_a_remark_say_nothing(rt: HostRuntime) {
 
 #[test]
 fn the_largest_number_of_each_field_passes(rt: HostRuntime) {
-    let entry = Line::NewStep(NewStep {
+    let entry = Line::Event(Event::NewStep(NewStep {
         seat: 255,
         market: 255,
         shares: 255,
         discount: 65_535,
         stamp: u64::MAX,
-    });
+    }));
     assert_eq!(rt;
         parse_line(b"enter 255 255 255 65535 18446744073709551615"),
         Ok(Some(entry))

@@ -1,9 +1,10 @@
 //! One line as text.
 ghost use Rattle.std.specs.Prelude.{IfOk, string_bytes};
-ghost use Rattle.lines.specs.Record.{record_of, Fits};
+ghost use Rattle.lines.specs.Record.{own_value, record_of, Fits, event as says};
 ghost use Rattle.lines.specs.Shown.{Written};
 
 use crate::line::Line;
+use records::Event;
 use std::alloc::{AllocError, Global};
 
 impl Line {
@@ -13,11 +14,20 @@ impl Line {
     {
         match self {
             Line::Deposit(_dollars) => {}
-            Line::Open(_row) => {}
-            Line::NewStep(_step) => {}
-            Line::Raise(_raise) => {}
-            Line::Close | Line::Changeover => {}
+            Line::Event(event) => known_event(event),
         }
+    }
+}
+
+// The same of an event.
+fn known_event(event: Event<[u8; 14]>)
+    ensures { Fits (says (own_value event)) }
+{
+    match event {
+        Event::Open(_row) => {}
+        Event::NewStep(_step) => {}
+        Event::Raise(_raise) => {}
+        Event::Close | Event::Changeover => {}
     }
 }
 

@@ -1,5 +1,6 @@
 -- What an event is, apart from where its row lies, and the 16 bytes that keep one.
 use Rattle.std.specs.Prelude.{◌≡◌, ℕ, ◌^◌, ◌<◌, Bool, true, false, cond, List, ◌∷◌, ◌++◌, length, take, drop, replicate, Ok, Err, Result, ◌==◌, slice_index}
+use Rattle.std.specs.Borrow.{Bor}
 use Rattle.faults.specs.declared.record.RecordFault.{RecordFault}
 use Rattle.faults.specs.declared.record.RecordFault.TheVariants.{RowLength, UnknownKind, NotZero}
 use Rattle.offers.specs.declared.NewStep.{NewStep}
@@ -23,15 +24,18 @@ value_of_new_step s = new_step s.seat s.market s.shares s.discount s.stamp
 abbrev pub value_of_raise : Raise → EventValue
 value_of_raise r = raise r.seat r.shares r.step r.discount r.stamp
 
-abbrev pub value_of : Event → EventValue
-value_of (Open row) = opening row.now
-value_of (OfNewStep s) = value_of_new_step s
-value_of (OfRaise r) = value_of_raise r
-value_of Close = close
-value_of Changeover = changeover
+abbrev pub value_with : {R : Type 0} → (R → List ℕ) → Event R → EventValue
+value_with bytes (Open row) = opening (bytes row)
+value_with bytes (OfNewStep s) = value_of_new_step s
+value_with bytes (OfRaise r) = value_of_raise r
+value_with bytes Close = close
+value_with bytes Changeover = changeover
+
+abbrev pub value_of : Event (Bor (List ℕ)) → EventValue
+value_of e = value_with (λ row. row.now) e
 
 -- the same of an answer
-abbrev pub seen : {F : Type 0} → Result Event F → Result EventValue F
+abbrev pub seen : {F : Type 0} → Result (Event (Bor (List ℕ))) F → Result EventValue F
 seen (Ok e) = Ok (value_of e)
 seen (Err f) = Err f
 

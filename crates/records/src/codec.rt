@@ -17,7 +17,7 @@ fn all_zero(bytes: &[u8]) -> bool
 }
 
 /// The event that these bytes keep.
-pub fn decode(record: &[u8; 16]) -> Result<Event<'_>, RecordFault>
+pub fn decode(record: &[u8; 16]) -> Result<Event<&[u8]>, RecordFault>
     ensures { seen result ≡ decoded «record».now }
 {
     let discount = u16::from_be_bytes([record[6], record[7]]);
@@ -91,7 +91,7 @@ fn encode_bare(kind: Kind) -> [u8; 16]
 }
 
 /// The 16 bytes that keep this event, unless it is an opening whose row isn't 14 bytes.
-pub fn encode(event: Event) -> Result<[u8; 16], RecordFault>
+pub fn encode(event: Event<&[u8]>) -> Result<[u8; 16], RecordFault>
     ensures { Encoded result (value_of event.entry) }
 {
     match event {

@@ -2,10 +2,10 @@
 
 use offers::{NewStep, Raise};
 
-/// What a session's clerk recorded. An opening borrows its row, seven increments of two bytes, from the file.
+/// What a session's clerk recorded. An opening has a row, seven increments of two bytes: lent by the file, or its own.
 #[derive(Clone, Copy, PartialEq, Eq, Debug)]
-pub enum Event<'a> {
-    Open(&'a [u8]),
+pub enum Event<R> {
+    Open(R),
     NewStep(NewStep),
     Raise(Raise),
     Close,

@@ -1,5 +1,5 @@
 -- The file of deposits and events whose rows fit.
-use Rattle.std.proofs.Common.{◌≡◌, ℕ, zero, suc, ◌+◌, ◌≤◌, true, List, [], ◌∷◌, ◌++◌, map, length, take, Ok, Err, Result, IsOk, sym, refl, ap, subst, ◌∙◌, arith}
+use Rattle.std.proofs.Common.{◌≡◌, ℕ, Bor, zero, suc, ◌+◌, ◌≤◌, true, List, [], ◌∷◌, ◌++◌, map, length, take, Ok, Err, Result, IsOk, sym, refl, ap, subst, ◌∙◌, arith}
 use Rattle.std.proofs.lemmas.Bool.Decides.{nat_tests}
 use Rattle.std.specs.List.{flat_map, AllByRecursion}
 use Rattle.std.proofs.lemmas.List.{length-append, take_at, drop_all, append-nil}
@@ -53,12 +53,12 @@ module _ (ms ds : List ℕ) (vs : List EventValue) (fit : AllFit vs) (size : len
       ∙ ap (λ l. Ok (session_bytes ds vs ++ l)) (drop_all (length (session_bytes ds vs)) ms (omega (arith, length_session ds vs fit)))
       ∙ ap Ok (append-nil (session_bytes ds vs))
 
-pub rows_of_values : (es : List Event) → AllByRecursion (λ e. row_fits (value_of e) ≡ true) es → AllFit (map value_of es)
+pub rows_of_values : (es : List (Event (Bor (List ℕ)))) → AllByRecursion (λ e. row_fits (value_of e) ≡ true) es → AllFit (map value_of es)
 rows_of_values [] h = tt
 rows_of_values (e ∷ es) h = (h.0, rows_of_values es h.1)
 
 -- the file of some records is put into a memory of its size, and fills it
-pub file_put : (ms ds : List ℕ) (es : List Event) (rs : List Record) → length ms ≡ file_size rs → file_size rs ≤ 65536 → ds ≡ deposits_in rs → map value_of es ≡ events_in rs → AllByRecursion (λ e. row_fits (value_of e) ≡ true) es
+pub file_put : (ms ds : List ℕ) (es : List (Event (Bor (List ℕ)))) (rs : List Record) → length ms ≡ file_size rs → file_size rs ≤ 65536 → ds ≡ deposits_in rs → map value_of es ≡ events_in rs → AllByRecursion (λ e. row_fits (value_of e) ≡ true) es
     → (session_put ms ds (map value_of es) ≡ Ok (file_of rs)) × (length (file_of rs) ≡ length ms)
 file_put ms ds es rs long small p q rows =
     let a = size_counted rs in

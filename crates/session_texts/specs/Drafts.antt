@@ -1,25 +1,20 @@
 -- What a draft holds, and what hearing a line answers.
-use Rattle.std.specs.Prelude.{◌≡◌, ℕ, ◌+◌, ◌≤◌, true, false, List, ◌++◌, map, length, Some, None, Ok, Err, vec_items, Option, Result, Vec}
-use Rattle.std.specs.List.{list_all}
+use Rattle.std.specs.Prelude.{◌≡◌, ℕ, ◌+◌, ◌≤◌, false, List, map, Some, None, Ok, Err, vec_items, Option, Result, Vec}
+use Rattle.records.specs.declared.event.Event.{Event}
 use Rattle.lines.specs.declared.line.Line.{Line}
 use Rattle.lines.specs.declared.fault.LineFault.{LineFault}
-use Rattle.lines.specs.Record.{Record, deposit, record_of}
+use Rattle.lines.specs.Record.{Record, own_value, record_of}
 use Rattle.std.specs.declared.alloc.Global.{Global}
-use Rattle.sessions.specs.Layout.{size_of}
-use Rattle.session_texts.specs.Records.{record_size, file_size, is_event, file_of}
+use Rattle.session_texts.specs.Records.{record_size, file_size, file_of}
+use Rattle.session_texts.specs.Again.{records_from}
 use Rattle.session_texts.specs.Told.{late, heard, told}
 use Rattle.session_texts.specs.declared.fault.TextFault.{TextFault}
 use Rattle.session_texts.specs.declared.fault.MakeFault.{MakeFault}
 use Rattle.session_texts.specs.declared.fault.MakeFault.TheVariants.{Line as AtLine, Memory}
 
--- the records of a draft that has these deposits, and these lines behind them
-abbrev pub records_of : List ℕ → List Line → List Record
-records_of deposits events = map deposit deposits ++ map record_of events
-
--- the lines say events alone, and the file of it all has 65,536 bytes at most
-pub record Sound (deposits : List ℕ) (events : List Line) : Type 0 where
-  pub only_events : list_all (λ line. is_event (record_of line)) events ≡ true
-  pub small : size_of (length deposits) (length events) ≤ 65536
+-- the records of a draft that has these deposits, and these events behind them
+abbrev pub records_of : List ℕ → List (Event (List ℕ)) → List Record
+records_of deposits events = records_from deposits (map own_value events)
 
 -- what a line says to a draft of these records: a record that has a place there, nothing, or a refusal
 abbrev pub Taken : Result (Option Line) TextFault → List Record → Result (Option Record) LineFault → Type 0

@@ -9,6 +9,7 @@ ghost use Rattle.session_texts.specs.Told.{late, heard};
 use crate::fault::{MakeFault, TextFault};
 use faults::Section;
 use lines::{Line, parse_line};
+use records::Event;
 use sessions::MOST_BYTES;
 use std::alloc::{AllocError, Global};
 use std::marker::Model;
@@ -17,19 +18,20 @@ use std::marker::Model;
 #[derive(Drop)]
 pub(crate) struct Draft {
     pub(crate) deposits: Vec<u32>,
-    pub(crate) events: Vec<Line>,
+    pub(crate) events: Vec<Event<[u8; 14]>>,
 }
 
 impl Model for Draft {
-    ghost use Rattle.std.specs.Prelude.{List};
+    ghost use Rattle.std.specs.Prelude.{◌≤◌, List, length};
+    ghost use Rattle.sessions.specs.Layout.{size_of};
     ghost use Rattle.lines.specs.Record.{Record};
-    ghost use Rattle.session_texts.specs.Drafts.{records_of, Sound};
+    ghost use Rattle.session_texts.specs.Drafts.{records_of};
 
     ghost Value = { List Record };
 
     ghost view = { λ d. records_of d.deposits.items d.events.items };
 
-    ghost invariant = { λ d. Sound d.deposits.items d.events.items };
+    ghost invariant = { λ d. size_of (length d.deposits.items) (length d.events.items) ≤ 65536 };
 }
 
 // The section that keeps the record of a line.
@@ -38,7 +40,7 @@ fn section_of(line: &Line) -> Section
 {
     match line {
         Line::Deposit(_) => Section::Deposits,
-        _ => Section::Events,
+        Line::Event(_) => Section::Events,
     }
 }
 
@@ -70,7 +72,7 @@ impl Draft {
     {
         match line {
             Line::Deposit(_) => !self.events.is_empty(),
-            _ => false,
+            Line::Event(_) => false,
         }
     }
 
@@ -98,7 +100,7 @@ impl Draft {
     {
         match line {
             Line::Deposit(dollars) => self.deposits.push(dollars)?,
-            event => self.events.push(event)?,
+            Line::Event(event) => self.events.push(event)?,
         }
         Ok(())
     }

@@ -2,32 +2,30 @@
 ghost use Rattle.std.specs.Prelude.{◌≡◌, true, map, IfOk};
 ghost use Rattle.std.specs.List.{AllByRecursion};
 ghost use Rattle.records.specs.Event.{value_of, row_fits};
-ghost use Rattle.lines.specs.Record.{record_of};
-ghost use Rattle.session_texts.specs.Records.{events_in, file_of};
+ghost use Rattle.lines.specs.Record.{own_value};
+ghost use Rattle.session_texts.specs.Records.{file_of};
 ghost use Rattle.session_texts.specs.Drafts.{MadeFrom};
 ghost use Rattle.session_texts.specs.Again.{MadeAgain};
 
 use crate::draft::Draft;
 use crate::fault::MakeFault;
 use crate::hear::hear_text;
-use lines::Line;
+use lines::lent;
 use records::Event;
 use session_writer::put_session;
 use std::alloc::{AllocError, Global};
 
-// The events among these lines.
-fn events_in(heap: Global, lines: &[Line]) -> Result<Vec<Event<'_>>, AllocError>
-    ensures value { IfOk result (λ v. map value_of v.items ≡ events_in (map record_of lines.now)) }
+// These events, their rows lent.
+fn lent_rows(heap: Global, events: &[Event<[u8; 14]>]) -> Result<Vec<Event<&[u8]>>, AllocError>
+    ensures value { IfOk result (λ v. map value_of v.items ≡ map own_value events.now) }
     ensures rows { IfOk result (λ v. AllByRecursion (λ e. row_fits (value_of e) ≡ true) v.items) }
 {
-    // A loop: what `event` promises doesn't say where the row lies, so a proof can't name what `collect` gathers.
-    let mut events = Vec::new(heap);
-    for line in lines {
-        if let Some(event) = line.event() {
-            events.push(event)?;
-        }
+    // A loop: what `lent` promises doesn't say where the row lies, so a proof can't name what `collect` gathers.
+    let mut all = Vec::new(heap);
+    for event in events {
+        all.push(lent(event))?;
     }
-    Ok(events)
+    Ok(all)
 }
 
 impl Draft {
@@ -35,7 +33,7 @@ impl Draft {
     fn file(&self, heap: Global) -> Result<Vec<u8>, AllocError>
         ensures { IfOk result (λ v. v.items ≡ file_of self.now) }
     {
-        let events = events_in(heap, &self.events)?;
+        let events = lent_rows(heap, &self.events)?;
         let mut file = vec![in heap; 0; self.size()]?;
         put_session(&mut file, &self.deposits, &events).unwrap();
         Ok(file)

@@ -32,7 +32,7 @@ impl Record<4> for u32 {
     }
 }
 
-impl Record<16> for Event<'_> {
+impl Record<16> for Event<&[u8]> {
     ghost fits = { λ e. Kept (value_of e) };
 
     ghost bytes = { λ e. encoded (value_of e) };
@@ -56,7 +56,7 @@ fn write_records<R: Record<N>, const N: usize>(memory: &mut [u8], start: usize, 
 }
 
 // Every event can be kept, or the first that can't is refused.
-fn check_rows(events: &[Event]) -> Result<(), FileFault>
+fn check_rows(events: &[Event<&[u8]>]) -> Result<(), FileFault>
     ensures value { result ≡ rows_fit 1 (map value_of events.now) }
     ensures kept { OnOk result (AllKept (map value_of events.now)) }
 {
@@ -68,7 +68,11 @@ fn check_rows(events: &[Event]) -> Result<(), FileFault>
 }
 
 // The header of a session of so many deposits and these events, if it can be written into a memory of this size.
-fn check_session(size: usize, deposits: usize, events: &[Event]) -> Result<[u8; 16], FileFault>
+fn check_session(
+    size: usize,
+    deposits: usize,
+    events: &[Event<&[u8]>],
+) -> Result<[u8; 16], FileFault>
     ensures value { let es = map value_of events.now in MatchResult result (λ bs. (session_fits size deposits es ≡ Ok tt) × (bs ≡ header_of deposits (length es))) (λ f. session_fits size deposits es ≡ Err f) }
     ensures room { OnOk result (Room size deposits (length events.now)) }
     ensures kept { OnOk result (AllKept (map value_of events.now)) }
@@ -79,7 +83,7 @@ fn check_session(size: usize, deposits: usize, events: &[Event]) -> Result<[u8; 
 }
 
 // Writes a session that fits: its header, the deposits and the events.
-fn write_session(memory: &mut [u8], header: &[u8; 16], deposits: &[u32], events: &[Event])
+fn write_session(memory: &mut [u8], header: &[u8; 16], deposits: &[u32], events: &[Event<&[u8]>])
     requires fits { session_fits (length memory.old) (length deposits.now) (map value_of events.now) ≡ Ok tt }
     requires room { Room (length memory.old) (length deposits.now) (length events.now) }
     requires header { header.now ≡ header_of (length deposits.now) (length (map value_of events.now)) }
@@ -93,7 +97,11 @@ fn write_session(memory: &mut [u8], header: &[u8; 16], deposits: &[u32], events:
 }
 
 /// Writes a whole session: the header, these deposits and these events. A refusal leaves the memory as it was.
-pub fn put_session(memory: &mut [u8], deposits: &[u32], events: &[Event]) -> Result<(), FileFault>
+pub fn put_session(
+    memory: &mut [u8],
+    deposits: &[u32],
+    events: &[Event<&[u8]>],
+) -> Result<(), FileFault>
     ensures wrote { Wrote result memory.old memory.new (session_put memory.old deposits.now (map value_of events.now)) }
     ensures reads { OnOk result (SessionIn memory.new deposits.now (map value_of events.now)) }
 {

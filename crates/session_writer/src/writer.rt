@@ -73,14 +73,19 @@ pub fn put_deposit(memory: &mut [u8], number: usize, dollars: u32) -> Result<(),
 }
 
 /// The bytes of the event of this number, unless it can't be kept.
-pub(crate) fn event_bytes(event: Event, number: usize) -> Result<[u8; 16], FileFault>
+pub(crate) fn event_bytes(event: Event<&[u8]>, number: usize) -> Result<[u8; 16], FileFault>
     ensures { let e = value_of event.entry in MatchResult result (λ bs. (bs ≡ encoded e) × Kept e) (λ f. (row_fits e ≡ false) × (f ≡ FileFault.Record number RecordFault.RowLength)) }
 {
     encode(event).map_err(|fault| FileFault::Record(number, fault))
 }
 
 // Writes the event of this number at its place, unless it can't be kept.
-fn write_event(memory: &mut [u8], number: usize, at: usize, event: Event) -> Result<(), FileFault>
+fn write_event(
+    memory: &mut [u8],
+    number: usize,
+    at: usize,
+    event: Event<&[u8]>,
+) -> Result<(), FileFault>
     requires place { Ok at ≡ located Events memory.old number }
     requires room { at + 16 ≤ length memory.old }
     ensures wrote { Wrote result memory.old memory.new (event_put memory.old number (value_of event.entry)) }
@@ -92,7 +97,7 @@ fn write_event(memory: &mut [u8], number: usize, at: usize, event: Event) -> Res
 }
 
 /// Writes the event of this number, its own 16 bytes only.
-pub fn put_event(memory: &mut [u8], number: usize, event: Event) -> Result<(), FileFault>
+pub fn put_event(memory: &mut [u8], number: usize, event: Event<&[u8]>) -> Result<(), FileFault>
     ensures wrote { Wrote result memory.old memory.new (event_put memory.old number (value_of event.entry)) }
     ensures reads { OnOk result (EventIn memory.old memory.new number (value_of event.entry)) }
 {

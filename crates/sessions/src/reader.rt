@@ -9,7 +9,7 @@ use faults::{FileFault, Section};
 use records::{Event, decode};
 
 // The event that these bytes keep; its refusal tells the number of the event.
-fn event_in(record: &[u8; 16], number: usize) -> Result<Event<'_>, FileFault>
+fn event_in(record: &[u8; 16], number: usize) -> Result<Event<&[u8]>, FileFault>
     ensures { seen result ≡ of_number number (decoded «record».now) }
 {
     decode(record).map_err(|fault| FileFault::Record(number, fault))
@@ -82,7 +82,7 @@ impl<'a> Reader<'a> {
     }
 
     /// The event of this number.
-    pub fn event(&self, number: usize) -> Result<Event<'a>, FileFault>
+    pub fn event(&self, number: usize) -> Result<Event<&'a [u8]>, FileFault>
         ensures { seen result ≡ event_at (lent self.now) number }
     {
         let at = self.place(Section::Events, number)?;

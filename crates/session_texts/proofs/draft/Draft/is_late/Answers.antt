@@ -11,6 +11,6 @@ returns-in-Deposit c =
     let long : d.events.len ≡ length d.events.items = omega arith in
     ap not c.is_empty.ensures
     ∙ ap (λ n. not (eqb n 0)) long
-    ∙ sym (late_is d.deposits.items d.events.items c.in-Deposit.field-0 c.self.invariant.only_events)
+    ∙ sym (late_is d.deposits.items d.events.items c.in-Deposit.field-0)
     ∙ ap (λ rs. late rs (record_of (Deposit c.in-Deposit.field-0))) c.self.view_is
     ∙ ap (λ l. late c.args.self.now (record_of l)) (sym c.in-Deposit.is)
