@@ -62,7 +62,7 @@ fn a_refused_record_leaves_the_memory(rt: HostRuntime) -> Result<(), Fail> {
 fn a_whole_session_is_written_or_nothing(rt: HostRuntime) -> Result<(), Fail> {
     let mut events = Vec::new(rt.alloc());
     events.push(Event::Close)?;
-    events.push(Event::Open(&ROW))?;
+    events.push(Event::Open(&ROW[..]))?;
     let mut memory = [7u8; 53];
     put_session(&mut memory, &[9], &events)?;
     assert!(rt;
