@@ -13,15 +13,17 @@ impl PhaseSheet for TwoMarkets {
 
     const OPENING_ROUNDS: u8 = 2;
 
-    ghost MARKETS = { 2 };
-
-    ghost OPENING_ROUNDS = { 2 };
-
     ghost figures = { λ _. record { markets = 2; openings = 2; percent = λ r. (if nat_eq r 1 then 50 else (if nat_eq r 2 then 50 else 0)); weight = λ m. (if nat_eq m 1 then 400 else (if nat_eq m 2 then 1 else 0)) } };
 
-    ghost counted = { Prim.search rules };
-
     ghost lawful = { Prim.search rules };
+
+    fn market_count(&self) -> u8 {
+        Self::MARKETS
+    }
+
+    fn opening_count(&self) -> u8 {
+        Self::OPENING_ROUNDS
+    }
 
     fn percent(&self, round: u64) -> u8 {
         match round {

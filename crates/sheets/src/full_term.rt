@@ -14,15 +14,17 @@ impl PhaseSheet for FullTerm {
 
     const OPENING_ROUNDS: u8 = 1;
 
-    ghost MARKETS = { 1 };
-
-    ghost OPENING_ROUNDS = { 1 };
-
     ghost figures = { λ _. full_term };
 
-    ghost counted = { Prim.search rules };
-
     ghost lawful = { Prim.search rules };
+
+    fn market_count(&self) -> u8 {
+        Self::MARKETS
+    }
+
+    fn opening_count(&self) -> u8 {
+        Self::OPENING_ROUNDS
+    }
 
     fn percent(&self, round: u64) -> u8 {
         if round == 1 { 100 } else { 0 }

@@ -14,15 +14,17 @@ impl PhaseSheet for SingleYear {
 
     const OPENING_ROUNDS: u8 = 4;
 
-    ghost MARKETS = { 7 };
-
-    ghost OPENING_ROUNDS = { 4 };
-
     ghost figures = { λ _. single_year };
 
-    ghost counted = { Prim.search rules };
-
     ghost lawful = { Prim.search rules };
+
+    fn market_count(&self) -> u8 {
+        Self::MARKETS
+    }
+
+    fn opening_count(&self) -> u8 {
+        Self::OPENING_ROUNDS
+    }
 
     fn percent(&self, round: u64) -> u8 {
         match round {
