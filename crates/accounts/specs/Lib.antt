@@ -1,2 +1,2 @@
 pub mod Accounts
-pub mod Rows
+pub mod Seated

@@ -32,7 +32,7 @@ fn may_enter<S: PhaseSheet + Drop, B: StepBook + Drop>(
     ensures tested { TestedButFull (state_of S.PhaseSheet B.StepBook sale.now) (entering step) result }
     ensures sound { OnOk result (offered step.market step.discount step.shares ≡ true) }
 {
-    if !sale.ledger.stage.is_open() {
+    if !sale.ledger.opened {
         return Err(SaleFault::RoundShut);
     }
     if outside(step.seat as usize, sale.ledger.seats.count()) {

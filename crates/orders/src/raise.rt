@@ -34,7 +34,7 @@ fn may_raise<S: PhaseSheet + Drop, B: StepBook + Drop>(
     ensures own { IfOk result (λ x. x.bid.seat ≡ raise.seat) }
     ensures sound { IfOk result (λ x. (offered x.bid.market raise.discount raise.shares ≡ true) × (raise.shares ≤ x.shares.standing)) }
 {
-    if !sale.ledger.stage.is_open() {
+    if !sale.ledger.opened {
         return Err(SaleFault::RoundShut);
     }
     if outside(raise.seat as usize, sale.ledger.seats.count()) {

@@ -43,7 +43,7 @@ is_seat : (i n : ℕ) → i < n → outside (i + 1) n ≡ false
 is_seat i n h = grind (arith, nat_tests)
 
 -- the account of seat i + 1 is cut by what it owes and hasn't standing
-cut_more : (figures : Figures) (round : ℕ) (steps : List StepRecord) (old now after : List Account) (i by : ℕ) → i < length old →
+pub cut_more : (figures : Figures) (round : ℕ) (steps : List StepRecord) (old now after : List Account) (i by : ℕ) → i < length old →
     now ≡ first_with (closed_account figures round steps) 1 i old →
     by ≡ owed figures round (get_or now (i + 1 - 1) nobody).eligible - weighted figures.weight (i + 1) standing_of steps → after ≡ with_cut (i + 1) by now →
     after ≡ first_with (closed_account figures round steps) 1 (i + 1) old

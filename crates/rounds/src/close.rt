@@ -1,5 +1,6 @@
 //! The closing of a round.
 ghost use Rattle.std.specs.Prelude.{◌≡◌, ◌-◌, ◌≤◌, slice_index_or};
+ghost use Rattle.accounts.specs.Seated.{seated};
 ghost use Rattle.rules.specs.Lists.{each_with};
 ghost use Rattle.rules.specs.Sales.{nobody, owed as owed_of, ends as sale_ends, close, answer};
 ghost use Rattle.rules.specs.Books.{weighted, standing_of};
@@ -10,7 +11,7 @@ use accounts::Seats;
 use books::StepBook;
 use closing::{hand_out, reject_losing};
 use rules::{Answer, SaleFault};
-use sale_parts::{SaleParts, Stage};
+use sale_parts::SaleParts;
 use sheets::PhaseSheet;
 use sums::{shares_losing, standing_weight};
 
@@ -20,7 +21,7 @@ pub fn close_round<S: PhaseSheet + Drop, B: StepBook + Drop>(
 ) -> Result<Answer, SaleFault>
     ensures { Does S.PhaseSheet B.StepBook sale.old close result sale.new }
 {
-    if !sale.ledger.stage.is_open() {
+    if !sale.ledger.opened {
         return Err(SaleFault::RoundShut);
     }
     Ok(settle(sale))
@@ -41,7 +42,8 @@ fn settle<S: PhaseSheet + Drop, B: StepBook + Drop>(sale: &mut SaleParts<S, B>) 
     let rejected = shares_losing(&sale.book) as u64;
     reject_losing(&mut sale.book);
     sale.ledger.clearing = hand_out(&mut sale.book, sale.ledger.lots);
-    sale.ledger.stage = if ended { Stage::Ended } else { Stage::Shut };
+    sale.ledger.opened = false;
+    sale.ledger.ended = ended;
     Answer::Closed { rejected, ended }
 }
 
@@ -62,7 +64,7 @@ fn owed<S: PhaseSheet>(sheet: &S, round: u64, eligible: u32) -> u32
 
 // Cuts each seat's eligibility by what it owes and hasn't standing, one account at a time.
 fn cut_seats<S: PhaseSheet, B: StepBook>(sheet: &S, book: &B, round: u64, seats: &mut Seats)
-    ensures { seats.new ≡ each_with (closed_account (S.PhaseSheet.figures sheet.now) round (B.StepBook.steps book.now)) 1 seats.old }
+    ensures { seated seats.new ≡ each_with (closed_account (S.PhaseSheet.figures sheet.now) round (B.StepBook.steps book.now)) 1 (seated seats.old) }
 {
     for seat in 1..=seats.count() as u8 {
         let by = lacking(sheet, book, round, seat, seats);
@@ -80,7 +82,7 @@ fn lacking<S: PhaseSheet, B: StepBook>(
     seats: &Seats,
 ) -> u32
     requires { 1 ≤ seat }
-    ensures { result ≡ owed_of (S.PhaseSheet.figures sheet.now) round (slice_index_or seats.now (seat - 1) nobody).eligible - weighted (S.PhaseSheet.figures sheet.now).weight seat standing_of (B.StepBook.steps book.now) }
+    ensures { result ≡ owed_of (S.PhaseSheet.figures sheet.now) round (slice_index_or (seated seats.now) (seat - 1) nobody).eligible - weighted (S.PhaseSheet.figures sheet.now).weight seat standing_of (B.StepBook.steps book.now) }
 {
     let owes = owed(sheet, round, seats.eligible(seat));
     owes.saturating_sub(standing_weight(sheet, book, seat))

@@ -1,12 +1,12 @@
 //! The opening of a round.
-ghost use Rattle.std.specs.Prelude.{◌≡◌, ◌≤◌, false, length, OnOk};
+ghost use Rattle.std.specs.Prelude.{◌≡◌, ◌≤◌, length, OnOk};
 ghost use Rattle.rules.specs.Parts.{round_begun};
 ghost use Rattle.rules.specs.Sales.{fixed, padded as padded_row, opening, verdict};
 ghost use Rattle.sale_parts.specs.State.{state_of, Tested, Does};
 
 use books::StepBook;
 use rules::{Answer, SaleFault};
-use sale_parts::{SaleParts, Stage};
+use sale_parts::SaleParts;
 use sheets::PhaseSheet;
 use std::array;
 use sums::first_above;
@@ -36,12 +36,11 @@ fn may_open<S: PhaseSheet + Drop, B: StepBook + Drop>(
 ) -> Result<(), SaleFault>
     ensures tested { Tested (verdict (state_of S.PhaseSheet B.StepBook sale.now) (opening row.now)) result }
     ensures short { OnOk result (length row.now ≤ 7) }
-    ensures going { OnOk result ((state_of S.PhaseSheet B.StepBook sale.now).ended ≡ false) }
 {
-    if sale.ledger.stage.has_ended() {
+    if sale.ledger.ended {
         return Err(SaleFault::SaleEnded);
     }
-    if sale.ledger.stage.is_open() {
+    if sale.ledger.opened {
         return Err(SaleFault::RoundOpen);
     }
     if row.len() != sale.sheet.market_count() as usize {
@@ -58,12 +57,11 @@ fn begin_round<S: PhaseSheet + Drop, B: StepBook + Drop>(
     sale: &mut SaleParts<S, B>,
     increments: [u16; 7],
 )
-    requires { (state_of S.PhaseSheet B.StepBook sale.old).ended ≡ false }
     ensures { state_of S.PhaseSheet B.StepBook sale.new ≡ round_begun (state_of S.PhaseSheet B.StepBook sale.old) increments }
 {
     sale.ledger.increments = increments;
     sale.ledger.round = sale.ledger.round.saturating_add(1);
-    sale.ledger.stage = Stage::Open;
+    sale.ledger.opened = true;
     sale.ledger.raised = false;
 }
 

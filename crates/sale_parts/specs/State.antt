@@ -2,6 +2,7 @@
 use Rattle.std.specs.Prelude.{◌≡◌, ℕ, Bool, ◌&&◌, Ok, Err, Result}
 use Rattle.sheets.specs.declared.sheet.PhaseSheet.{Ghosts as SheetGhosts}
 use Rattle.books.specs.declared.book.StepBook.{Ghosts as BookGhosts}
+use Rattle.accounts.specs.Seated.{seated}
 use Rattle.rules.specs.declared.answer.Answer.{Answer}
 use Rattle.rules.specs.declared.fault.SaleFault.{SaleFault}
 use Rattle.rules.specs.declared.fault.SaleFault.TheVariants.{Book}
@@ -12,7 +13,6 @@ use Rattle.steps.specs.declared.fault.BookFault.TheVariants.{Full}
 use Rattle.rules.specs.Sales.{State, Verdict, passed, failed, unless, Call, enter, raise, verdict, reply, after}
 use Rattle.rules.specs.Parts.{book_full}
 use Rattle.sale_parts.specs.declared.parts.SaleParts.{SaleParts}
-use Rattle.sale_parts.specs.Stages.{is_open, has_ended}
 
 -- the state that the rules speak of: the sheet's figures, the book's size and steps, and the ledger
 abbrev pub state_of : {S B : Type 0} → SheetGhosts S → BookGhosts B → SaleParts S B → State
@@ -22,13 +22,13 @@ state_of sheet book s = record {
   steps = book.steps s.book;
   lots = s.ledger.lots;
   round = s.ledger.round;
-  opened = is_open s.ledger.stage;
-  ended = has_ended s.ledger.stage;
+  opened = s.ledger.opened;
+  ended = s.ledger.ended;
   increments = s.ledger.increments;
   clearing = s.ledger.clearing;
   raised = s.ledger.raised;
   last_stamp = s.ledger.last_stamp;
-  accounts = s.ledger.seats;
+  accounts = seated s.ledger.seats;
 }
 
 -- a call answers r and leaves s' of s, as the rules say

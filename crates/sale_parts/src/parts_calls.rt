@@ -1,12 +1,12 @@
 //! A sale's parts as they are made, and what several calls ask of them.
 ghost use Rattle.std.specs.Prelude.{◌≡◌};
+ghost use Rattle.accounts.specs.Seated.{seated};
 ghost use Rattle.rules.specs.Parts.{begun};
 ghost use Rattle.rules.specs.Sales.{fresh, taken as is_taken, outside as is_outside};
 ghost use Rattle.sale_parts.specs.State.{state_of};
 
 use crate::ledger::Ledger;
 use crate::parts::SaleParts;
-use crate::stage::Stage;
 use accounts::Seats;
 use books::StepBook;
 use sheets::PhaseSheet;
@@ -26,7 +26,8 @@ impl<S: PhaseSheet + Drop, B: StepBook + Drop> SaleParts<S, B> {
         let ledger = Ledger {
             lots: 0,
             round: 0,
-            stage: Stage::Ended,
+            opened: false,
+            ended: true,
             raised: false,
             last_stamp: 0,
             increments: [0; 7],
@@ -50,12 +51,10 @@ impl<S: PhaseSheet + Drop, B: StepBook + Drop> SaleParts<S, B> {
 
     /// The sale begins with these lots and seats.
     pub fn begin(&mut self, lots: u8, seats: Seats)
-        ensures { state_of S.PhaseSheet B.StepBook self.new ≡ begun (state_of S.PhaseSheet B.StepBook self.old) lots seats }
+        ensures { state_of S.PhaseSheet B.StepBook self.new ≡ begun (state_of S.PhaseSheet B.StepBook self.old) lots (seated seats) }
     {
         self.ledger.lots = lots;
         self.ledger.seats = seats;
-        if self.ledger.stage.has_ended() {
-            self.ledger.stage = Stage::Shut;
-        }
+        self.ledger.ended = false;
     }
 }

@@ -38,14 +38,14 @@ impl<S: PhaseSheet + Drop, B: StepBook + Drop> Sale<S, B> {
     pub fn is_open(&self) -> bool
         ensures { result ≡ (state_of S.PhaseSheet B.StepBook self.now).opened }
     {
-        self.parts.ledger.stage.is_open()
+        self.parts.ledger.opened
     }
 
     /// Whether the sale has ended, or hasn't started.
     pub fn has_ended(&self) -> bool
         ensures { result ≡ (state_of S.PhaseSheet B.StepBook self.now).ended }
     {
-        self.parts.ledger.stage.has_ended()
+        self.parts.ledger.ended
     }
 
     /// How many markets the sale has, numbered from 1.

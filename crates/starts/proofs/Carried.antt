@@ -25,7 +25,7 @@ carried_at first k (a ∷ rest) zero n e l = ap (λ m. opened_with (left_to firs
 carried_at first k (a ∷ rest) (suc j) n e l = carried_at first (suc k) rest j n (omega arith) (omega arith)
 
 -- one account more is opened, with what is left to its seat
-carried_more : (s : State) (seats : List Account) (i v : ℕ) → i < length s.accounts → i < 24 → v ≡ left_to s (i + 1) (account s (i + 1 - 1)) → seats ≡ take i (carried s 1 s.accounts) →
+pub carried_more : (s : State) (seats : List Account) (i v : ℕ) → i < length s.accounts → i < 24 → v ≡ left_to s (i + 1) (account s (i + 1 - 1)) → seats ≡ take i (carried s 1 s.accounts) →
     (after : List Account) → after ≡ with_opened v seats → after ≡ take (i + 1) (carried s 1 s.accounts)
 carried_more s seats i v within room e is after opened =
     let all = carried s 1 s.accounts in

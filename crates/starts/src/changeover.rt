@@ -1,5 +1,6 @@
 //! The changeover: a sale starts with what an ended first one left.
 ghost use Rattle.std.specs.Prelude.{◌≡◌, ◌-◌, ◌≤◌};
+ghost use Rattle.accounts.specs.Seated.{seated};
 ghost use Rattle.rules.specs.Sales.{account, carried, changeover, verdict};
 ghost use Rattle.rules.specs.Parts.{unsold, left_to};
 ghost use Rattle.sale_parts.specs.State.{state_of, Tested, Does};
@@ -34,7 +35,7 @@ fn may_change_over<
 >(sale: &SaleParts<S, B>, first: &SaleParts<T, C>) -> Result<(), SaleFault>
     ensures { Tested (verdict (state_of S.PhaseSheet B.StepBook sale.now) (changeover (state_of T.PhaseSheet C.StepBook first.now))) result }
 {
-    if !first.ledger.stage.has_ended() {
+    if !first.ledger.ended {
         return Err(SaleFault::FirstGoing);
     }
     if first.sheet.market_count() > 1 {
@@ -69,7 +70,7 @@ fn bought_left<S: PhaseSheet + Drop, B: StepBook + Drop>(sale: &SaleParts<S, B>,
 
 // The accounts that a later sale starts with: no more than the first one has, so that `unwrap` is proved and tests nothing.
 fn seats_left<S: PhaseSheet + Drop, B: StepBook + Drop>(sale: &SaleParts<S, B>) -> Seats
-    ensures { result ≡ carried (state_of S.PhaseSheet B.StepBook sale.now) 1 sale.now.ledger.seats }
+    ensures { seated result ≡ carried (state_of S.PhaseSheet B.StepBook sale.now) 1 (seated sale.now.ledger.seats) }
 {
     let mut seats = Seats::none();
     for seat in 1..=sale.ledger.seats.count() as u8 {

@@ -1,5 +1,6 @@
 //! The start of a sale.
 ghost use Rattle.std.specs.Prelude.{◌≡◌, ◌≤◌, map, length, OnOk};
+ghost use Rattle.accounts.specs.Seated.{seated};
 ghost use Rattle.rules.specs.Sales.{dollars, start, verdict};
 ghost use Rattle.sale_parts.specs.State.{state_of, Tested, Does};
 
@@ -52,7 +53,7 @@ fn may_start<S: PhaseSheet + Drop, B: StepBook + Drop>(
 // The accounts that no more than 24 deposits buy.
 fn seats_for(deposits: &[u32]) -> Seats
     requires { length deposits.now ≤ 24 }
-    ensures { result ≡ map dollars deposits.now }
+    ensures { seated result ≡ map dollars deposits.now }
 {
     Seats::of_deposits(deposits)
 }
