@@ -2,7 +2,7 @@
 ghost use Rattle.std.specs.Prelude.{◌≡◌, ◌+◌, ◌≤◌, true, false, List, length, MatchResult};
 ghost use Rattle.steps.specs.declared.record.StepRecord.{StepRecord as Record};
 ghost use Rattle.steps.specs.declared.fault.BookFault.TheVariants.{NoStep};
-ghost use Rattle.books.specs.Replies.{entered, held, at};
+ghost use Rattle.books.specs.Replies.{entered, held, at, ReadReply};
 
 use crate::book::{StepBook, place_of};
 use crate::memory::StepMemory;
@@ -50,6 +50,14 @@ fn record_of<M: StepMemory>(memory: &M, number: u16) -> Result<StepRecord, BookF
         .ok_or(BookFault::NoStep)
 }
 
+// The step of that number. A record that is held keeps the rule, which is proved: `unwrap` tests nothing.
+fn step_of<M: StepMemory>(memory: &M, number: u16) -> Result<Step, BookFault>
+    ensures { ReadReply (M.StepMemory.steps memory.now) number result }
+{
+    let record = record_of(memory, number)?;
+    Ok(Step::try_from(record).unwrap())
+}
+
 impl<M: StepMemory> StepBook for M {
     ghost frame = { M.StepMemory.frame };
 
@@ -69,12 +77,16 @@ impl<M: StepMemory> StepBook for M {
     }
 
     fn read(&self, number: u16) -> Result<Step, BookFault> {
-        Step::try_from(record_of(self, number)?)
+        step_of(self, number)
     }
 
     fn set(&mut self, number: u16, shares: Shares) -> Result<(), BookFault> {
-        let old = self.read(number)?.stored();
-        let new = Step::try_from(StepRecord { shares, ..old })?;
+        let old = record_of(self, number)?;
+        if !shares.keep_rule() {
+            return Err(BookFault::BadStep);
+        }
+        // The bid keeps the rule as before, which is proved: `unwrap` tests nothing.
+        let new = Step::try_from(StepRecord { shares, ..old }).unwrap();
         self.replace(number as usize - 1, new);
         Ok(())
     }
