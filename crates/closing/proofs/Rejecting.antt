@@ -35,7 +35,7 @@ module _ (xs : List StepRecord) (sound : SoundBelow xs (length xs)) where
 
   module _ (ys : List StepRecord) (k : ℕ) (r : ys ≡ rejected_to k xs) where
     -- the next step is held
-    rejected_held : k < length xs → held ys (k + 1) ≡ true
+    pub rejected_held : k < length xs → held ys (k + 1) ≡ true
     rejected_held l = let e = ap length r ∙ length-map xs (rejects_to k) in held_true ys (k + 1) (omega arith) (omega arith)
 
     module _ (within : k < length xs) where
@@ -57,7 +57,7 @@ module _ (xs : List StepRecord) (sound : SoundBelow xs (length xs)) where
           ∙ ap (λ t. cond t (rejects x) x) not_yet
 
       -- one step more
-      rejected_more : (zs : List StepRecord) → zs ≡ set ys (k + 1 - 1) (rejects (at ys (k + 1))) → zs ≡ rejected_to (k + 1) xs
+      pub rejected_more : (zs : List StepRecord) → zs ≡ set ys (k + 1 - 1) (rejects (at ys (k + 1))) → zs ≡ rejected_to (k + 1) xs
       rejected_more zs made =
           made
           ∙ ap (λ i. set ys i (rejects (at ys (k + 1)))) (omega arith)

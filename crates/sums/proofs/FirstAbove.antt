@@ -12,7 +12,7 @@ use Rattle.sums.specs.Above.{any_above, place_above, FirstAbove}
 
 module _ {X : Type 0} (value : X → ℕ) (most : ℕ) where
   -- none is above, where each was passed
-  none_all : (ns : List X) (i : ℕ) → length ns ≤ i → any_above value most (take i ns) ≡ false → any_above value most ns ≡ false
+  pub none_all : (ns : List X) (i : ℕ) → length ns ≤ i → any_above value most (take i ns) ≡ false → any_above value most ns ≡ false
   none_all ns i past none = ap (any_above value most) (sym (take_all i ns past)) ∙ none
 
   counted : (ns : List X) (i k : ℕ) (d : X) → i < length ns → ltb most (value (get_or ns i d)) ≡ true → any_above value most (take i ns) ≡ false
