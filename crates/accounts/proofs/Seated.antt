@@ -1,5 +1,5 @@
 -- The accounts that a table holds, as a list.
-use Rattle.std.proofs.Common.{◌≡◌, ℕ, ◌+◌, ◌<◌, ◌≤◌, List, [], ◌∷◌, ◌++◌, map, length, get_or, take, set, sym, ap, ◌∙◌, arith}
+use Rattle.std.proofs.Common.{◌≡◌, ℕ, ◌+◌, ◌<◌, List, [], ◌∷◌, ◌++◌, map, length, get_or, take, set, sym, ap, ◌∙◌, arith}
 use Rattle.std.proofs.lemmas.List.{get_or-take, get_or-map, map-set, take-map}
 use Rattle.rules.specs.Sales.{nobody}
 use Rattle.accounts.specs.declared.account.SeatAccount.{SeatAccount}
@@ -14,10 +14,6 @@ length_seated s =
     let few = s.few in
     let full = s.full in
     front_length plain_of s.count s.rows (omega arith)
-
--- .. which is 24 at most
-pub seated_few : (s : Seats) → length (seated s) ≤ 24
-seated_few s = let few = s.few in omega (arith, length_seated s)
 
 -- the row at a place below the count has the account at that place; d stands where there is no row
 pub account_at : (s : Seats) (place : ℕ) (d : SeatAccount) → place < s.count → (get_or s.rows place d).account ≡ get_or (seated s) place nobody
