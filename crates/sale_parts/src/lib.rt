@@ -4,7 +4,9 @@
 mod ledger;
 mod parts;
 mod parts_calls;
+mod stage;
 
 pub use ledger::Ledger;
 pub use parts::SaleParts;
 pub use parts_calls::outside;
+pub use stage::Stage;
