@@ -2,8 +2,8 @@
 ghost use Rattle.std.specs.Prelude.{◌≡◌};
 ghost use Rattle.sale_parts.specs.Stages.{is_open, has_ended};
 
-/// A sale begins ended, and then goes from round to round until it ends. This is for a caller that keeps how far a sale is as
-/// one value; a ledger has two flags, since its sale's parts can be open and ended.
+/// How far a sale is, as one value: it begins ended, and then goes from round to round until it ends. A ledger has two flags
+/// instead, since a sale's parts, which anyone may set, can be open and ended at once.
 #[derive(Clone, Copy, PartialEq, Eq, Debug)]
 pub enum Stage {
     /// It has ended, or hasn't started.
